@@ -1,0 +1,13 @@
+pub mod Lists
+pub mod Answers
+pub mod Tree
+pub mod Sheet
+pub mod Words
+pub mod Relation
+pub mod Run
+pub mod Compose
+pub mod Bytes
+pub mod Names
+pub mod Text
+pub mod Written
+pub mod Calls
