@@ -60,6 +60,14 @@ unfoldable mutual
   wordsD ε = []
   wordsD (e · d) = words e ++ wordsD d
 
+-- words but for text starts: the third word of each node as 0
+unfoldable pub without-starts : List ℕ → List ℕ
+without-starts [] = []
+without-starts (a ∷ []) = a ∷ []
+without-starts (a ∷ b ∷ []) = a ∷ b ∷ []
+without-starts (a ∷ b ∷ c ∷ []) = a ∷ b ∷ c ∷ []
+without-starts (a ∷ b ∷ c ∷ d ∷ t) = a ∷ b ∷ 0 ∷ d ∷ without-starts t
+
 -- ---- the rules of a tree over g tags
 
 unfoldable pub is-text : Element → Bool
