@@ -1,4 +1,6 @@
 pub mod Tests
+pub mod CheckLaws
 pub mod ListLaws
 pub mod Scan
+pub mod NameLaws
 pub mod Cases

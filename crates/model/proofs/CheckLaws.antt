@@ -1,0 +1,45 @@
+-- Checks: what passes is one value, and what a sequence of checks that passes says of each.
+use mathlib.Core.Path.{_≡_, refl, ap}
+use mathlib.Core.Bool.{Bool, true, false}
+use Prim.Native.Nat.{ℕ}
+use native.Mathlib.Omega.{arith}
+use Rattle.model.specs.Answers.{Checked, passes, refuses, _>>=_, _>>_, require}
+use Rattle.model.proofs.Tests.{Yes}
+
+pub refuses≢passes : {A : Type 0} {a : A} {n i : ℕ} → refuses n i ≡ passes a → ⊥
+refuses≢passes e = let z : _≡_ {A = ℕ} 0 1 = cc in omega arith
+
+pub passes-inj : {A : Type 0} {a b : A} → _≡_ {A = Checked A} (passes a) (passes b) → a ≡ b
+passes-inj {A} {a} e = ap value e
+  where
+    value : Checked A → A
+    value (passes x) = x
+    value (refuses n i) = a
+
+-- a sequence passes where each of its checks does
+pub bind-inv : {A B : Type 0} (c : Checked A) (f : A → Checked B) {b : B} → (c >>= f) ≡ passes b → (a : A) × (c ≡ passes a) × (f a ≡ passes b)
+unfolding _>>=_
+bind-inv (passes a) f e = (a, refl, e)
+bind-inv (refuses n i) f e = absurd (refuses≢passes e)
+
+pub bind-passes : {A B : Type 0} {c : Checked A} {a : A} (f : A → Checked B) → c ≡ passes a → (c >>= f) ≡ f a
+unfolding _>>=_
+bind-passes f e = rw e
+
+pub then-inv : {A B : Type 0} (c : Checked A) (d : Checked B) {b : B} → (c >> d) ≡ passes b → (a : A) × (c ≡ passes a) × (d ≡ passes b)
+unfolding _>>_
+then-inv (passes a) d e = (a, refl, e)
+then-inv (refuses n i) d e = absurd (refuses≢passes e)
+
+pub then-passes : {A B : Type 0} {c : Checked A} {a : A} (d : Checked B) → c ≡ passes a → (c >> d) ≡ d
+unfolding _>>_
+then-passes d e = rw e
+
+pub require-inv : (b : Bool) {n i : ℕ} → require b n i ≡ passes tt → Yes b
+unfolding require
+require-inv true e = refl
+require-inv false e = absurd (refuses≢passes e)
+
+pub require-passes : {b : Bool} {n i : ℕ} → Yes b → require b n i ≡ passes tt
+unfolding require
+require-passes e = rw e
