@@ -1,6 +1,6 @@
 -- Checks: what passes is one value, and what a sequence of checks that passes says of each.
 use mathlib.Core.Path.{_≡_, refl, ap}
-use mathlib.Core.Bool.{Bool, true, false}
+use mathlib.Core.Bool.{Bool, true, false, false≢true}
 use Prim.Native.Nat.{ℕ}
 use native.Mathlib.Omega.{arith}
 use Rattle.model.specs.Answers.{Checked, passes, refuses, _>>=_, _>>_, require}
@@ -35,11 +35,12 @@ pub then-passes : {A B : Type 0} {c : Checked A} {a : A} (d : Checked B) → c �
 unfolding _>>_
 then-passes d e = rw e
 
-pub require-inv : (b : Bool) {n i : ℕ} → require b n i ≡ passes tt → Yes b
+pub require-inv : (b : Bool) (n i : ℕ) {u : Unit {0}} → require b n i ≡ passes u → Yes b
 unfolding require
-require-inv true e = refl
-require-inv false e = absurd (refuses≢passes e)
+require-inv true n i e = refl
+require-inv false n i e = absurd (refuses≢passes e)
 
-pub require-passes : {b : Bool} {n i : ℕ} → Yes b → require b n i ≡ passes tt
+pub require-passes : (b : Bool) (n i : ℕ) → Yes b → require b n i ≡ passes tt
 unfolding require
-require-passes e = rw e
+require-passes true n i e = refl
+require-passes false n i e = absurd (false≢true e)
