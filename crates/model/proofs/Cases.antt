@@ -1,49 +1,114 @@
+-- Document 01's cases 1 to 10: one table, and one theorem over its rows, closed by computation.
 use mathlib.Core.Path.{_≡_, refl}
-use mathlib.Core.Bool.{Bool, true, false}
-use mathlib.Core.List.{List, [], _∷_, flatMap}
-use Prim.Native.Nat.{ℕ, zero, suc}
-use Rattle.model.specs.Lists.{has, every, only, from, row, grid}
-use Rattle.model.specs.Answers.{Said, count, accepted, refused, stuck, refusal, Checked, passes, refuses, _>>=_, _>>_, require, room-for, answer-of, buffer-after}
-use Rattle.model.specs.Tree.{size, words, is-text, text-symbol, tag-symbol, look, children-by, children, tree-of}
-use Rattle.model.specs.Sheet.{mask, set-words, signed-word, arc-word, order-words, sum-words, step-words, count-words, rule-words, sheet-words, small, signed-32, then, word, one-of, all, bit, members, set-below, arc-ok, arc, order, signed, coefficient, sum, at-most-step, remainder-step, one-earlier, two-earlier, step, steps, target, text-rule, tag-rule, order-rule, count-rule, order-count-rule, rule, sheet, ended, sheet-of, file-words}
+use mathlib.Core.Bool.{true}
+use mathlib.Core.List.{List, [], _∷_, _++_, map, flatMap}
+use Prim.Native.Nat.{ℕ, _*_, _/_, _%_}
+use Prim.Native.String.{String}
+use lib.Dec.{leb}
+use lib.IntN.{ℤ, negsuc}
+use lib.ListN.{length, replicate}
+use Rattle.model.specs.Lists.{_∈_, has, every, only, from, row, grid}
+use Rattle.model.specs.Answers.{Said, count, accepted, refused, stuck, refusal, _>>=_, _>>_, require, room-for, answer-of, buffer-after}
+use Rattle.model.specs.Tree.{size, words, is-text, nodes, text-symbol, tag-symbol, look, children-by, children, tree-of, without-starts}
+use Rattle.model.specs.Sheet.{mask, set-words, signed-word, arc-word, order-words, sum-words, step-words, count-words, rule-words, sheet-words, small, then, word, one-of, all, bit, members, set-below, arc-ok, arc, order, signed, coefficient, sum, at-most-step, remainder-step, one-earlier, two-earlier, step, steps, target, text-rule, tag-rule, order-rule, count-rule, order-count-rule, rule, sheet, ended, sheet-of, file-words}
 use Rattle.model.specs.Words.{entered, next-set, last-set, meets, fits-order, reads-from, reads, occurrences, total, remainder-of, holds, truths, fits-count}
 use Rattle.model.specs.Run.{at-text, at-content, at-tag, text-targets, content-targets, element-targets, kind, of-kind, looks-of, tries, element-looks, and-also, gist, items, child-words, child-states, judge-text, judge-element, judge-node, run, last-zero, root-verdict, verdict}
 use Rattle.model.specs.Compose.{swapped, lift-order, pair-order, joint-order, coefficient-of, lift-sum, lift-step, joint-count, pair-rule, joint-rules, joint, positions-of, arcs-of, steps-of, within-limits}
 use Rattle.model.specs.Bytes.{class-number, is, class-of, letter-byte, name-byte, is-name, same-bytes, digit-byte, kind-of-text}
 use Rattle.model.specs.Names.{prepend, lines, number-from, tag-of, name-of, good-line, lines-checked, names-of}
 use Rattle.model.specs.Text.{moves, move, place-number, move-number, does, name-at, trimmed, text-at, behind, text-node, tag-node, outside, closed, moved, state-at, refusal-2, refusal-3, refusal-4, innermost, refusal-5, start-tag, refusal-6, refusal-7, number-at, first-refused, form-of}
-use Rattle.model.specs.Written.{source-bytes, tagged, written, text-byte, solid-byte, trimmed-text, good-text, good-words, texts-checked, short-enough}
-use Rattle.model.specs.Calls.{names-said, read, read-said, read-tree, tree-said, write, write-said, write-out, sheet-said, judge, verdict-of, judge-said, first-states, states-after, judge-states, swap, swap-said, swap-out, in-second, joined, join, join-said, join-out}
+use Rattle.model.specs.Calls.{read, read-tree, verdict-of, swap, swap-out, in-second, joined, join, join-said, join-out, formcheck}
+use Rattle.model.proofs.Examples.{bytes, All, that-is-all, _and_, all-∈}
 
-abbrev S : List ℕ
-S = 1 ∷ 5 ∷ 16 ∷ 0 ∷ 4 ∷ 6 ∷ 33 ∷ 2 ∷ 0 ∷ 38 ∷ 1 ∷ 0 ∷ 1 ∷ 38 ∷ 2 ∷ 0 ∷ 2 ∷ 38 ∷ 4 ∷ 0 ∷ 3 ∷ 38 ∷ 3 ∷ 0 ∷ 4 ∷ 48 ∷ 3 ∷ 1 ∷ 6 ∷ 0 ∷ 1 ∷ 4294967295 ∷ 0 ∷ 1 ∷ 6 ∷ 0 ∷ 4294967295 ∷ 1 ∷ 0 ∷ 4 ∷ 0 ∷ 1 ∷ 0 ∷ []
+-- ---- the sheets and the names
 
-abbrev T′ : List ℕ
-T′ = 1 ∷ 1 ∷ 1 ∷ 0 ∷ 4 ∷ 7 ∷ 33 ∷ 1 ∷ 0 ∷ 33 ∷ 2 ∷ 0 ∷ 38 ∷ 1 ∷ 0 ∷ 0 ∷ 38 ∷ 2 ∷ 0 ∷ 0 ∷ 38 ∷ 3 ∷ 0 ∷ 0 ∷ 38 ∷ 4 ∷ 0 ∷ 0 ∷ 32 ∷ 0 ∷ []
+-- Tags: ct, oven, site, units.
+list : List ℕ
+list = bytes "ct\noven\nsite\nunits\n"
 
--- ct oven site units
-abbrev N : List ℕ
-N = 99 ∷ 116 ∷ 10 ∷ 111 ∷ 118 ∷ 101 ∷ 110 ∷ 10 ∷ 115 ∷ 105 ∷ 116 ∷ 101 ∷ 10 ∷ 117 ∷ 110 ∷ 105 ∷ 116 ∷ 115 ∷ 10 ∷ []
+-- S: edition, states, final states, tags, rules; a text of kind 2; the four tags; as many ovens as sensors
+rules-of-S : List ℕ
+rules-of-S =
+    (33 ∷ 2 ∷ 0 ∷ [])
+    ++ (38 ∷ 1 ∷ 0 ∷ 1 ∷ []) ++ (38 ∷ 2 ∷ 0 ∷ 2 ∷ []) ++ (38 ∷ 4 ∷ 0 ∷ 3 ∷ []) ++ (38 ∷ 3 ∷ 0 ∷ 4 ∷ [])
+    ++ (48 ∷ 3 ∷ []) ++ (1 ∷ 6 ∷ 0 ∷ 1 ∷ 4294967295 ∷ 0 ∷ []) ++ (1 ∷ 6 ∷ 0 ∷ 4294967295 ∷ 1 ∷ 0 ∷ []) ++ (4 ∷ 0 ∷ 1 ∷ []) ++ (0 ∷ [])
 
--- <site><oven/><ct/><units/></site>
-abbrev F1 : List ℕ
-F1 = 60 ∷ 115 ∷ 105 ∷ 116 ∷ 101 ∷ 62 ∷ 60 ∷ 111 ∷ 118 ∷ 101 ∷ 110 ∷ 47 ∷ 62 ∷ 60 ∷ 99 ∷ 116 ∷ 47 ∷ 62 ∷ 60 ∷ 117 ∷ 110 ∷ 105 ∷ 116 ∷ 115 ∷ 47 ∷ 62 ∷ 60 ∷ 47 ∷ 115 ∷ 105 ∷ 116 ∷ 101 ∷ 62 ∷ []
+S : List ℕ
+S = (1 ∷ 5 ∷ 16 ∷ 0 ∷ 4 ∷ 6 ∷ []) ++ rules-of-S
 
-abbrev tree1 : List ℕ
-tree1 = 3 ∷ 4 ∷ 0 ∷ 0 ∷ 2 ∷ 1 ∷ 0 ∷ 0 ∷ 1 ∷ 1 ∷ 0 ∷ 0 ∷ 4 ∷ 1 ∷ 0 ∷ 0 ∷ []
+-- S plus rule 33 2 1
+S-plus : List ℕ
+S-plus = (1 ∷ 5 ∷ 16 ∷ 0 ∷ 4 ∷ 7 ∷ []) ++ rules-of-S ++ (33 ∷ 2 ∷ 1 ∷ [])
 
-names4 : names-said N ≡ count 4
-unfolding names-said answer-of names-of lines-checked good-line number-from same-bytes is-name every letter-byte name-byte class-of is class-number lines prepend
-names4 = refl
+-- S swapped: word 2 is 15
+S-swapped : List ℕ
+S-swapped = (1 ∷ 5 ∷ 15 ∷ 0 ∷ 4 ∷ 6 ∷ []) ++ rules-of-S
 
-read1 : read-tree N F1 (0 ∷ 0 ∷ 0 ∷ 0 ∷ 0 ∷ 0 ∷ 0 ∷ 0 ∷ 0 ∷ 0 ∷ 0 ∷ 0 ∷ 0 ∷ 0 ∷ 0 ∷ 0 ∷ 9 ∷ []) ≡ 3 ∷ 4 ∷ 0 ∷ 0 ∷ 2 ∷ 1 ∷ 0 ∷ 0 ∷ 1 ∷ 1 ∷ 0 ∷ 0 ∷ 4 ∷ 1 ∷ 0 ∷ 0 ∷ 9 ∷ []
-unfolding read-tree read buffer-after _>>=_ _>>_ require room-for size words answer-of names-of lines-checked good-line number-from same-bytes is-name every letter-byte name-byte class-of is class-number lines prepend tag-of moves move place-number move-number does name-at trimmed text-at behind text-node tag-node outside closed moved state-at refusal-2 refusal-3 refusal-4 innermost refusal-5 start-tag refusal-6 refusal-7 number-at first-refused form-of kind-of-text digit-byte
-read1 = refl
+-- T has one state, final, and seven rules that take everything to it
+T : List ℕ
+T =
+    (1 ∷ 1 ∷ 1 ∷ 0 ∷ 4 ∷ 7 ∷ []) ++ (33 ∷ 1 ∷ 0 ∷ []) ++ (33 ∷ 2 ∷ 0 ∷ [])
+    ++ (38 ∷ 1 ∷ 0 ∷ 0 ∷ []) ++ (38 ∷ 2 ∷ 0 ∷ 0 ∷ []) ++ (38 ∷ 3 ∷ 0 ∷ 0 ∷ []) ++ (38 ∷ 4 ∷ 0 ∷ 0 ∷ []) ++ (32 ∷ 0 ∷ [])
 
-judge1 : judge-said S tree1 (0 ∷ 0 ∷ 0 ∷ 0 ∷ []) ≡ accepted 4 23
-unfolding judge-said verdict-of judge _>>=_ _>>_ require room-for sheet-of ended sheet rule text-rule tag-rule order-rule count-rule order-count-rule target steps step at-most-step remainder-step one-earlier two-earlier sum coefficient signed small order arc arc-ok set-below members bit all one-of word then from only flatMap has every tree-of children children-by look tag-symbol text-symbol size run judge-node judge-element judge-text child-states child-words items gist and-also element-looks tries looks-of of-kind kind element-targets content-targets text-targets at-tag at-content at-text verdict root-verdict last-zero entered next-set last-set meets fits-order reads-from reads occurrences total remainder-of holds truths fits-count
-judge1 = refl
+-- a sheet of p states without rules
+bare-sheet : ℕ → List ℕ
+bare-sheet p = 1 ∷ p ∷ 0 ∷ 0 ∷ 4 ∷ 0 ∷ []
 
-join1 : joined S T′ ≡ sheet-of S
-unfolding joined in-second joint joint-rules pair-rule joint-count lift-step lift-sum coefficient-of joint-order pair-order lift-order within-limits positions-of arcs-of steps-of sheet-words rule-words count-words step-words sum-words order-words arc-word signed-word set-words mask grid row _>>=_ _>>_ require room-for sheet-of ended sheet rule text-rule tag-rule order-rule count-rule order-count-rule target steps step at-most-step remainder-step one-earlier two-earlier sum coefficient signed small order arc arc-ok set-below members bit all one-of word then from only flatMap has every
-join1 = refl
+-- a sheet's file: each word is 4 bytes, lowest first
+file : List ℕ → List ℕ
+file = flatMap (λ w. (w % 256) ∷ (w / 256 % 256) ∷ (w / 65536 % 256) ∷ (w / 16777216) ∷ [])
+
+-- ---- the table
+
+-- A form that formcheck is run on; a tree that is read; a sheet that is swapped; two sheets that are joined; a form that
+-- formcheck is run on with their joint sheet, and the limit of its looks; a division.
+pub data Case : Type 0 where
+  checks : (sheet : List ℕ) (form : String) → Said → Case
+  reads-as : (form : String) (tree : List ℕ) → Case
+  swaps-to : (sheet swapped : List ℕ) → Case
+  joins-to : (first second joint : List ℕ) → Case
+  join-says : (first second : List ℕ) → Said → Case
+  joint-checks : (first second : List ℕ) (form : String) → Said → Case
+  looks-within : (looks limit : ℕ) → Case
+  leaves : (z : ℤ) (m r : ℕ) → Case
+
+pub Holds : Case → Type 0
+Holds (checks sheet form said) = formcheck list (file sheet) (bytes form) ≡ said
+Holds (reads-as form tree) = read-tree list (bytes form) (replicate (length tree) 0) ≡ tree
+Holds (swaps-to sheet swapped) = swap-out sheet (replicate (length swapped) 0) ≡ swapped
+Holds (joins-to first second joint) = join-out first second (replicate (length joint) 0) ≡ joint
+Holds (join-says first second said) = join-said first second (replicate 16384 0) ≡ said
+Holds (joint-checks first second form said) = formcheck list (file (join-out first second (replicate (length first) 0))) (bytes form) ≡ said
+Holds (looks-within looks limit) = leb looks limit ≡ true
+Holds (leaves z m r) = remainder-of z m ≡ r
+
+pub table : List Case
+table =
+    checks S "<site><oven/><ct/><units/></site>" (accepted 4 23)
+    ∷ checks S "<site><oven/><units/></site>" (stuck 0 13)
+    ∷ checks S "<units> kWh </units>" (refused 3 5)
+    ∷ reads-as "<units> kWh </units>" (4 ∷ 2 ∷ 0 ∷ 0 ∷ 66 ∷ 1 ∷ 8 ∷ 3 ∷ [])
+    ∷ checks S "<units/>" (refused 3 5)
+    ∷ checks S "<units> </units>" (refused 3 5)
+    ∷ checks S "<site><oven/></site>" (stuck 0 9)
+    ∷ checks S-plus "<units> kWh </units>" (refusal 23 1)
+    ∷ swaps-to S S-swapped
+    ∷ checks S-swapped "<units> kWh </units>" (accepted 3 5)
+    ∷ joins-to S T S
+    ∷ joint-checks S T "<site><oven/><ct/><units/></site>" (accepted 4 23)
+    ∷ looks-within 23 (2 * 4 * 6 * 7)
+    ∷ join-says (bare-sheet 8) (bare-sheet 8) (count 6)
+    ∷ join-says (bare-sheet 5) (bare-sheet 13) (refusal 21 1)
+    ∷ leaves (negsuc 0) 3 2
+    ∷ []
+
+-- ---- the theorem
+
+computed : All Holds table
+unfolding Holds table list rules-of-S S S-plus S-swapped T bare-sheet file bytes flatMap has every only from row grid _>>=_ _>>_ require room-for answer-of buffer-after size words is-text nodes text-symbol tag-symbol look children-by children tree-of without-starts mask set-words signed-word arc-word order-words sum-words step-words count-words rule-words sheet-words small then word one-of all bit members set-below arc-ok arc order signed coefficient sum at-most-step remainder-step one-earlier two-earlier step steps target text-rule tag-rule order-rule count-rule order-count-rule rule sheet ended sheet-of file-words entered next-set last-set meets fits-order reads-from reads occurrences total remainder-of holds truths fits-count at-text at-content at-tag text-targets content-targets element-targets kind of-kind looks-of tries element-looks and-also gist items child-words child-states judge-text judge-element judge-node run last-zero root-verdict verdict swapped lift-order pair-order joint-order coefficient-of lift-sum lift-step joint-count pair-rule joint-rules joint positions-of arcs-of steps-of within-limits class-number is class-of letter-byte name-byte is-name same-bytes digit-byte kind-of-text prepend lines number-from tag-of name-of good-line lines-checked names-of moves move place-number move-number does name-at trimmed text-at behind text-node tag-node outside closed moved state-at refusal-2 refusal-3 refusal-4 innermost refusal-5 start-tag refusal-6 refusal-7 number-at first-refused form-of read read-tree verdict-of swap swap-out in-second joined join join-said join-out formcheck
+computed =
+    refl and refl and refl and refl and refl and refl and refl and refl and refl and refl and refl and refl and refl and refl and refl and refl
+    and that-is-all
+
+pub cases-hold : (c : Case) → c ∈ table → Holds c
+cases-hold = all-∈ Holds computed

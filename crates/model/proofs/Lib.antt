@@ -3,4 +3,6 @@ pub mod CheckLaws
 pub mod ListLaws
 pub mod Scan
 pub mod NameLaws
+pub mod Examples
 pub mod Cases
+pub mod Refusals
