@@ -1,5 +1,5 @@
--- Checks: what passes is one value, and what a sequence of checks that passes says of each.
-use mathlib.Core.Path.{_≡_, refl, ap}
+-- One check after another: what it tells that a sequence of checks passes, and the number that a sequence refuses with.
+use mathlib.Core.Path.{_≡_, refl, ap, subst}
 use mathlib.Core.Bool.{Bool, true, false, false≢true}
 use Prim.Native.Nat.{ℕ}
 use native.Mathlib.Omega.{arith}
@@ -40,7 +40,31 @@ unfolding require
 require-inv true n i e = refl
 require-inv false n i e = absurd (refuses≢passes e)
 
+pub required : {A : Type 0} {a : A} (b : Bool) (n i : ℕ) (c : Checked A) → (require b n i >> c) ≡ passes a → Yes b × (c ≡ passes a)
+unfolding require _>>_
+required true n i c e = (refl, e)
+required false n i c e = absurd (refuses≢passes e)
+
 pub require-passes : (b : Bool) (n i : ℕ) → Yes b → require b n i ≡ passes tt
 unfolding require
 require-passes true n i e = refl
 require-passes false n i e = absurd (false≢true e)
+
+-- ---- the number that a sequence refuses with
+
+abbrev pub RefusesBy : {A : Type 0} → ℕ → Checked A → Type 0
+RefusesBy n (passes a) = Unit {0}
+RefusesBy n (refuses m i) = m ≡ n
+
+pub bind-refuses : {A B : Type 0} (n : ℕ) (c : Checked A) (f : A → Checked B) → RefusesBy n c → ((a : A) → RefusesBy n (f a)) → RefusesBy n (c >>= f)
+unfolding _>>=_
+bind-refuses n (passes a) f h k = k a
+bind-refuses n (refuses m i) f h k = h
+
+pub require-refuses : {A : Type 0} (b : Bool) (n i : ℕ) (c : Checked A) → RefusesBy n c → RefusesBy n (require b n i >> c)
+unfolding require _>>_
+require-refuses true n i c h = h
+require-refuses false n i c h = refl
+
+pub refuses-by : {A : Type 0} {n m i : ℕ} {c : Checked A} → RefusesBy n c → c ≡ refuses m i → m ≡ n
+refuses-by {n = n} h e = subst (RefusesBy n) e h

@@ -1,8 +1,10 @@
 pub mod Tests
 pub mod CheckLaws
 pub mod ListLaws
-pub mod Scan
+pub mod TreeView
+pub mod TreeLaws
 pub mod NameLaws
+pub mod Scan
 pub mod Examples
 pub mod Cases
 pub mod Refusals
