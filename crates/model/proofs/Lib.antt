@@ -3,6 +3,11 @@ pub mod CheckLaws
 pub mod ListLaws
 pub mod TreeView
 pub mod TreeLaws
+pub mod WordLaws
+pub mod Outcome
+pub mod Places
+pub mod Looks
+pub mod RunLaws
 pub mod NameLaws
 pub mod Scan
 pub mod Examples

@@ -2,9 +2,10 @@
 use mathlib.Core.Path.{_≡_}
 use mathlib.Core.Logic.{_≢_}
 use mathlib.Core.Bool.{Bool, true}
-use mathlib.Core.List.{List, [], _∷_}
+use mathlib.Core.List.{List, [], _∷_, _++_}
 use mathlib.Core.Option.{Option}
-use Prim.Native.Nat.{ℕ}
+use Prim.Native.Nat.{ℕ, zero, suc}
+use lib.ListN.{length}
 use Rattle.model.specs.Lists.{_∈_}
 use Rattle.model.specs.Tree.{Span, Element, text, tag, Document, ε, _·_, nodes}
 use Rattle.model.specs.Sheet.{Sheet, Rule, one, two, three, Order, Step}
@@ -55,3 +56,31 @@ Takes s e q = Single (s .rules) (nodes e) × To (s .rules) e q
 
 abbrev pub Accepts : Sheet → Element → Type 0
 Accepts s e = (q : ℕ) × Takes s e q × (q ∈ s .final)
+
+-- ---- the nodes of a form, by number
+
+abbrev pub NoState : List Rule → Element → Type 0
+NoState R f = (q : ℕ) → To R f q → ⊥
+
+abbrev pub SomeState : List Rule → Element → Type 0
+SomeState R f = (q : ℕ) × To R f q
+
+-- what a state word says of a node: 0, no state; q + 1, the state q
+abbrev pub StateWord : List Rule → Element → ℕ → Type 0
+StateWord R f zero = NoState R f
+StateWord R f (suc q) = To R f q
+
+-- the state words of nodes, one for each
+pub data StatesOf (R : List Rule) : List Element → List ℕ → Type 0 where
+  no-words : StatesOf R [] []
+  a-word : {f : Element} {l : List Element} {s : ℕ} {st : List ℕ} → StateWord R f s → StatesOf R l st → StatesOf R (f ∷ l) (s ∷ st)
+
+-- The highest-numbered node with the property P is node i: every node after it has Q, the property to the contrary.
+pub record Highest (P Q : Element → Type 0) (l : List Element) (i : ℕ) : Type 0 where
+  pub before : List Element
+  pub at : Element
+  pub after : List Element
+  pub split : l ≡ before ++ (at ∷ after)
+  pub index : length before ≡ i
+  pub holds : P at
+  pub above : (f : Element) → f ∈ after → Q f
