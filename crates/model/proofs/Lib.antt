@@ -1,6 +1,9 @@
 pub mod Tests
 pub mod CheckLaws
 pub mod ListLaws
+pub mod Spans
+pub mod SetWords
+pub mod SheetCode
 pub mod TreeView
 pub mod TreeLaws
 pub mod WordLaws
@@ -10,6 +13,7 @@ pub mod Looks
 pub mod RunLaws
 pub mod NameLaws
 pub mod Scan
+pub mod Demand2
 pub mod Examples
 pub mod Cases
 pub mod Refusals

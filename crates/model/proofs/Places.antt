@@ -1,8 +1,9 @@
 -- State words, node by node, and the highest-numbered node that has a property.
-use mathlib.Core.Path.{_≡_, refl, sym, ap, subst}
+use mathlib.Core.Path.{_≡_, refl, sym, ap, _∙_, subst}
 use mathlib.Core.Bool.{false}
-use mathlib.Core.List.{List, [], _∷_, _++_, List·Memᴰ·head, List·Memᴰ·tail, List·Memᴰ·not-nil}
+use mathlib.Core.List.{List, [], _∷_, _++_, List·Memᴰ·head, List·Memᴰ·tail, List·Memᴰ·not-nil, Memᴰ·append-right, tail-eq-of-cons-eq}
 use Prim.Native.Nat.{ℕ, zero, suc}
+use native.Mathlib.Omega.{arith}
 use lib.Dec.{eqb·zero-suc}
 use lib.ListN.{length}
 use Rattle.model.specs.Lists.{_∈_, has}
@@ -19,10 +20,15 @@ length-states no-words = refl
 length-states (a-word h t) = ap suc (length-states t)
 
 -- the first word is the root's
-pub root-word : {R : List Rule} (e : Element) {st : List ℕ} → StatesOf R (nodes e) st → (s : ℕ) × (rest : List ℕ) × (st ≡ s ∷ rest) × StateWord R e s
+pub root-word : {R : List Rule} (e : Element) {x : ℕ} {st : List ℕ} → StatesOf R (nodes e) (x ∷ st) → StateWord R e x
 unfolding nodes
-root-word (text k w) (a-word {s = s} {st = rest} h t) = (s, rest, refl, h)
-root-word (tag a w d) (a-word {s = s} {st = rest} h t) = (s, rest, refl, h)
+root-word (text k w) (a-word h t) = h
+root-word (tag a w d) (a-word h t) = h
+
+pub root-has-word : {R : List Rule} (e : Element) → StatesOf R (nodes e) [] → ⊥
+unfolding nodes
+root-has-word (text k w) t = let h = length-states t in omega arith
+root-has-word (tag a w d) t = let h = length-states t in omega arith
 
 -- ---- the highest-numbered node
 
@@ -40,6 +46,23 @@ module _ {P Q : Element → Type 0} where
     holds = h .holds;
     above = h .above;
   }
+
+  pub highest-∈ : {l : List Element} {i : ℕ} (h : Highest P Q l i) → h .at ∈ l
+  highest-∈ h = subst (λ l. h .at ∈ l) (sym (h .split)) (Memᴰ·append-right (h .before) (List·Memᴰ·head refl))
+
+  -- there is only one such node
+  pub highest-unique : ((f : Element) → P f → Q f → ⊥) → (l : List Element) {i j : ℕ} → Highest P Q l i → Highest P Q l j → i ≡ j
+  highest-unique apart l {i} {j} h k = go (h .before) (k .before) (sym (h .split) ∙ k .split) (h .index) (k .index)
+    where
+      -- the shorter front leaves the other's node behind it
+      behind : {a : List Element} (u : List Element) (y : Element) (b : List Element) → a ≡ u ++ (y ∷ b) → y ∈ a
+      behind u y b e = subst (λ m. y ∈ m) (sym e) (Memᴰ·append-right u (List·Memᴰ·head refl))
+
+      go : (u v : List Element) {m n : ℕ} → u ++ (h .at ∷ h .after) ≡ v ++ (k .at ∷ k .after) → length u ≡ m → length v ≡ n → m ≡ n
+      go [] [] e p q = sym p ∙ q
+      go [] (y ∷ v) e p q = absurd (apart (k .at) (k .holds) (h .above (k .at) (behind v (k .at) (k .after) (tail-eq-of-cons-eq e))))
+      go (x ∷ u) [] e p q = absurd (apart (h .at) (h .holds) (k .above (h .at) (behind u (h .at) (h .after) (sym (tail-eq-of-cons-eq e)))))
+      go (x ∷ u) (y ∷ v) e p q = sym p ∙ ap suc (go u v (tail-eq-of-cons-eq e) refl refl) ∙ q
 
 -- ---- the highest-numbered node without a state
 
