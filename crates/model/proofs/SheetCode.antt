@@ -15,7 +15,7 @@ use Rattle.model.specs.Lists.{_∈_, from, numbers, SetBelow}
 use Rattle.model.specs.Answers.{passes, refuses}
 use Rattle.model.specs.Sheet.{Arc, Coefficient, Step, at-most, remainder, not-step, and-step, or-step, Rule, one, two, three, Sheet, W, signed-word, arc-word, order-words, marks, sum-words, step-words, count-words, rule-words, sheet-words, small, signed-32, ArcInRange, OrderInRange, SumInRange, StepInRange, StepsInRange, CountInRange, RuleInRange, InRange, Got, got, bad, below, arc-of, arc-ok, arc, order, signed, coefficient, sum, at-most-step, remainder-step, one-earlier, two-earlier, step, steps, target, text-rule, tag-rule, order-rule, count-rule, order-count-rule, rule, sheet, ended, sheet-of}
 use Rattle.model.proofs.Tests.{Yes, Told, yea, nay, told, and-yes, and-left, and-right, same, eqb-yes, between-inv}
-use Rattle.model.proofs.Spans.{Span, word-next, whole, whole-inv, Reads, Makes, as-made, reads-by, word-reads, below-reads, between-reads, then-makes, given, Along, done, also, all-reads, one-more, repeated, singly, at-key, no-row, row, one-of-reads}
+use Rattle.model.proofs.Spans.{WordsAt, word-next, whole, whole-inv, Reads, Makes, as-made, reads-by, word-reads, below-reads, between-reads, then-makes, given, Along, done, also, all-reads, one-more, repeated, singly, at-key, no-row, row, one-of-reads}
 use Rattle.model.proofs.SetWords.{set-reads}
 
 -- what two tests in one say
@@ -144,7 +144,7 @@ two-makes : (f : ℕ → ℕ → Step) (i : ℕ) → Makes (two-earlier f i) (λ
 unfolding two-earlier
 two-makes f i = then-makes (below-reads i) (λ j _. given (below-reads i) (f j))
 
-step-back : (p i : ℕ) (x : Step) → StepInRange p i x → (s : List ℕ) (a b : ℕ) → Span s a b (step-words p x) → step p i s a ≡ got x b
+step-back : (p i : ℕ) (x : Step) → StepInRange p i x → (s : List ℕ) (a b : ℕ) → WordsAt s a b (step-words p x) → step p i s a ≡ got x b
 unfolding step step-words
 step-back p i (at-most cs z) (h, y) s a b k =
     let (l, e) = signed-back z y in
@@ -210,7 +210,7 @@ both-makes : (p : ℕ) → p ≤ 64
 unfolding order-count-rule
 both-makes p hp = then-makes (order-reads p hp) (λ o _. then-makes (steps-reads p) (λ ss _. target-makes p (three (some o) (some ss))))
 
-rule-back : (p g : ℕ) → p ≤ 64 → (x : Rule) → RuleInRange p g x → (s : List ℕ) (a b : ℕ) → Span s a b (rule-words p x) → rule p g s a ≡ got x b
+rule-back : (p g : ℕ) → p ≤ 64 → (x : Rule) → RuleInRange p g x → (s : List ℕ) (a b : ℕ) → WordsAt s a b (rule-words p x) → rule p g s a ≡ got x b
 unfolding rule rule-words
 rule-back p g hp (one k q) (lo, hi, l) s a b w = at-key _ w ∙ text-makes p .backwards (k, q) ((lo, hi), l) (word-next w)
 rule-back p g hp (two t c q) (lo, hi, h, l) s a b w = at-key _ w ∙ tag-makes p g .backwards (t, (c, q)) ((lo, hi), (h, l)) (word-next w)

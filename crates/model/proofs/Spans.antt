@@ -15,34 +15,34 @@ use Rattle.model.specs.Sheet.{Got, got, bad, Reader, give, then, _>>=_, 
 use Rattle.model.proofs.Tests.{Yes, same, between-yes, between-inv}
 use Rattle.model.proofs.ListLaws.{length-from}
 
--- ---- spans
+-- ---- words in a list
 
 -- the words ws stand in s from index a up to index b
-pub record Span (s : List ℕ) (a b : ℕ) (ws : List ℕ) : Type 0 where
+pub record WordsAt (s : List ℕ) (a b : ℕ) (ws : List ℕ) : Type 0 where
   pub stands : drop a s ≡ ws ++ drop b s
   pub ends : b ≡ a + length ws
 
-span-append : {s : List ℕ} {a b c : ℕ} {u v : List ℕ} → Span s a b u → Span s b c v → Span s a c (u ++ v)
+span-append : {s : List ℕ} {a b c : ℕ} {u v : List ℕ} → WordsAt s a b u → WordsAt s b c v → WordsAt s a c (u ++ v)
 span-append {s} {a} {b} {c} {u} {v} x y = record {
   stands = x .stands ∙ ap (λ (l : List ℕ). u ++ l) (y .stands) ∙ sym (append-assoc u v (drop c s));
   ends = omega (arith, x .ends, y .ends, length-append u v);
 }
 
-module _ {s : List ℕ} {a c : ℕ} (u v : List ℕ) (x : Span s a c (u ++ v)) where
+module _ {s : List ℕ} {a c : ℕ} (u v : List ℕ) (x : WordsAt s a c (u ++ v)) where
   later : drop (a + length u) s ≡ v ++ drop c s
   later = sym (drop-drop (length u) a s) ∙ ap (drop (length u)) (x .stands ∙ append-assoc u v (drop c s)) ∙ drop-at u (v ++ drop c s) (length u) refl
 
-  pub span-left : Span s a (a + length u) u
+  pub span-left : WordsAt s a (a + length u) u
   span-left = record { stands = x .stands ∙ append-assoc u v (drop c s) ∙ ap (λ (l : List ℕ). u ++ l) (sym later); ends = refl }
 
-  pub span-right : Span s (a + length u) c v
+  pub span-right : WordsAt s (a + length u) c v
   span-right = record { stands = later; ends = x .ends ∙ ap (λ (n : ℕ). a + n) (length-append u v) ∙ sym (add-assoc a (length u) (length v)) }
 
 -- one word
-span-word : {s : List ℕ} {a : ℕ} → a < length s → Span s a (a + 1) (getD s a 0 ∷ [])
+span-word : {s : List ℕ} {a : ℕ} → a < length s → WordsAt s a (a + 1) (getD s a 0 ∷ [])
 span-word {s} {a} h = record { stands = drop-cons s a 0 h ∙ ap (λ (n : ℕ). getD s a 0 ∷ drop n s) (sym (add-one a)); ends = refl }
 
-module _ {s : List ℕ} {a b x : ℕ} {ws : List ℕ} (p : Span s a b (x ∷ ws)) where
+module _ {s : List ℕ} {a b x : ℕ} {ws : List ℕ} (p : WordsAt s a b (x ∷ ws)) where
   pub word-there : a < length s
   word-there = omega (arith, length-drop a s, ap length (p .stands))
 
@@ -52,27 +52,27 @@ module _ {s : List ℕ} {a b x : ℕ} {ws : List ℕ} (p : Span s a b (x ∷ ws)
       let f : drop a s ≡ x ∷ (ws ++ drop b s) = p .stands in
       cc
 
-  pub word-next : Span s (a + 1) b ws
+  pub word-next : WordsAt s (a + 1) b ws
   word-next = span-right (x ∷ []) ws p
 
 -- a list stands whole in itself, and what stands up to the end of a list is all of it
-pub whole : (s : List ℕ) → Span s 0 (length s) s
+pub whole : (s : List ℕ) → WordsAt s 0 (length s) s
 whole s = record { stands = sym (append-nil s) ∙ ap (λ (l : List ℕ). s ++ l) (sym (drop-of-length-le s {i = length s} (omega arith))); ends = omega arith }
 
-pub whole-inv : {s ws : List ℕ} {b : ℕ} → length s ≤ b → Span s 0 b ws → s ≡ ws
+pub whole-inv : {s ws : List ℕ} {b : ℕ} → length s ≤ b → WordsAt s 0 b ws → s ≡ ws
 whole-inv {s} {ws} {b} h p = p .stands ∙ ap (λ (l : List ℕ). ws ++ l) (drop-of-length-le s {i = b} h) ∙ append-nil ws
 
 -- ---- readers
 
 -- A reader of parts: what it gets is in range and stands there as its words; where the words of a part in range stand, it gets that part.
 pub record Reads {A : Type 0} (r : Reader A) (words : A → List ℕ) (In : A → Type 0) : Type 0 where
-  pub forwards : {s : List ℕ} {a b : ℕ} {x : A} → r s a ≡ got x b → In x × Span s a b (words x)
-  pub backwards : {s : List ℕ} {a b : ℕ} {x : A} → In x → Span s a b (words x) → r s a ≡ got x b
+  pub forwards : {s : List ℕ} {a b : ℕ} {x : A} → r s a ≡ got x b → In x × WordsAt s a b (words x)
+  pub backwards : {s : List ℕ} {a b : ℕ} {x : A} → In x → WordsAt s a b (words x) → r s a ≡ got x b
 
 -- a reader that makes its value f x of fields x: the same, with the words and the range of the fields
 pub record Makes {A X : Type 0} (r : Reader A) (f : X → A) (words : X → List ℕ) (In : X → Type 0) : Type 0 where
-  pub forwards : {s : List ℕ} {a b : ℕ} {y : A} → r s a ≡ got y b → (x : X) × In x × (f x ≡ y) × Span s a b (words x)
-  pub backwards : {s : List ℕ} {a b : ℕ} (x : X) → In x → Span s a b (words x) → r s a ≡ got (f x) b
+  pub forwards : {s : List ℕ} {a b : ℕ} {y : A} → r s a ≡ got y b → (x : X) × In x × (f x ≡ y) × WordsAt s a b (words x)
+  pub backwards : {s : List ℕ} {a b : ℕ} (x : X) → In x → WordsAt s a b (words x) → r s a ≡ got (f x) b
 
 -- from the one to the other, and back where the fields of a part in range are in range and have its words
 pub as-made : {A : Type 0} {r : Reader A} {words : A → List ℕ} {In : A → Type 0} → Reads r words In → Makes r (λ x. x) words In
@@ -89,10 +89,10 @@ reads-by {words′ = words′} {In′ = In′} h there back = record {
   forwards = λ {s} {a} {b} e.
       let (x, i, ey, p) = h .forwards e in
       let (j, ew) = there x i in
-      subst (λ y. In′ y × Span s a b (words′ y)) ey (j, subst (Span s a b) ew p);
+      subst (λ y. In′ y × WordsAt s a b (words′ y)) ey (j, subst (WordsAt s a b) ew p);
   backwards = λ {s} {a} {b} {x = y} j p.
       let (x, i, ey, ew) = back y j in
-      h .backwards x i (subst (Span s a b) (sym ew) p) ∙ ap (λ z. got z b) ey;
+      h .backwards x i (subst (WordsAt s a b) (sym ew) p) ∙ ap (λ z. got z b) ey;
 }
 
 -- a bad place is no value
@@ -101,12 +101,12 @@ not-got e = absurd (let z : _≡_ {A = ℕ} 0 1 = cc in omega arith)
 
 -- ---- a word
 
-word-inv : (ok : ℕ → Bool) {s : List ℕ} {a b x : ℕ} → word ok s a ≡ got x b → Yes (ok x) × Span s a b (x ∷ [])
+word-inv : (ok : ℕ → Bool) {s : List ℕ} {a b x : ℕ} → word ok s a ≡ got x b → Yes (ok x) × WordsAt s a b (x ∷ [])
 unfolding word
 word-inv ok {s} {a} {b} {x} e = go (ltb a (length s)) refl (ok (getD s a 0)) refl e
   where
     go : (t : Bool) → ltb a (length s) ≡ t → (u : Bool) → ok (getD s a 0) ≡ u → cond (t && u) (got (getD s a 0) (a + 1)) (bad a) ≡ got x b
-        → Yes (ok x) × Span s a b (x ∷ [])
+        → Yes (ok x) × WordsAt s a b (x ∷ [])
     go true l true k e =
         let ex : getD s a 0 ≡ x = cc in
         let eb : a + 1 ≡ b = cc in
@@ -233,7 +233,7 @@ abbrev chosen : {A : Type 0} → ℕ → List (ℕ × Reader A) → Reader A
 chosen k [] s a = bad a
 chosen k (c ∷ cs) s a = cond (eqb k (c .0)) ((c .1) s (a + 1)) (chosen k cs s a)
 
-pub at-key : {A : Type 0} (cs : List (ℕ × Reader A)) {s : List ℕ} {a b k : ℕ} {ws : List ℕ} → Span s a b (k ∷ ws) → one-of cs s a ≡ chosen k cs s a
+pub at-key : {A : Type 0} (cs : List (ℕ × Reader A)) {s : List ℕ} {a b k : ℕ} {ws : List ℕ} → WordsAt s a b (k ∷ ws) → one-of cs s a ≡ chosen k cs s a
 unfolding one-of
 at-key [] p = refl
 at-key (c ∷ cs) {s} {a} {k = k} p = rw (tests.lt-ltb a (length s) (word-there p), word-here p) (ap (λ g. cond (eqb k (c .0)) ((c .1) s (a + 1)) g) (at-key cs p))
@@ -245,23 +245,23 @@ pub data Rows {A : Type 0} (words : A → List ℕ) (In : A → Type 0) : List (
       → ((x : X) → In′ x → In (f x) × (k ∷ words′ x ≡ words (f x))) → Rows words In cs → Rows words In ((k, r) ∷ cs)
 
 one-of-inv : {A : Type 0} {words : A → List ℕ} {In : A → Type 0} {cs : List (ℕ × Reader A)} → Rows words In cs → {s : List ℕ} {a b : ℕ} {y : A}
-    → one-of cs s a ≡ got y b → In y × Span s a b (words y)
+    → one-of cs s a ≡ got y b → In y × WordsAt s a b (words y)
 unfolding one-of
 one-of-inv no-row e = not-got e
 one-of-inv {words = words} {In = In} (row k {r} {cs = cs} h there rest) {s} {a} {b} {y} e =
     go (ltb a (length s)) refl (eqb (getD s a 0) k) refl (λ e. one-of-inv rest e) e
   where
-    go : (t : Bool) → ltb a (length s) ≡ t → (u : Bool) → eqb (getD s a 0) k ≡ u → (one-of cs s a ≡ got y b → In y × Span s a b (words y))
-        → cond (t && u) (r s (a + 1)) (one-of cs s a) ≡ got y b → In y × Span s a b (words y)
+    go : (t : Bool) → ltb a (length s) ≡ t → (u : Bool) → eqb (getD s a 0) k ≡ u → (one-of cs s a ≡ got y b → In y × WordsAt s a b (words y))
+        → cond (t && u) (r s (a + 1)) (one-of cs s a) ≡ got y b → In y × WordsAt s a b (words y)
     go true l true j other e =
         let (x, i, ey, p) = h .forwards e in
         let (i′, ew) = there x i in
-        let key : Span s a (a + 1) (k ∷ []) = rw (same (getD s a 0) k j) at (span-word {s = s} {a = a} (tests.ltb-true a (length s) l)) in
+        let key : WordsAt s a (a + 1) (k ∷ []) = rw (same (getD s a 0) k j) at (span-word {s = s} {a = a} (tests.ltb-true a (length s) l)) in
         (rw ey at i′, rw (ew, ey) at (span-append key p))
     go true l false j other e = other e
     go false l u j other e = other e
 
 pub one-of-reads : {A : Type 0} {words : A → List ℕ} {In : A → Type 0} {cs : List (ℕ × Reader A)} → Rows words In cs
-    → ((x : A) → In x → (s : List ℕ) (a b : ℕ) → Span s a b (words x) → one-of cs s a ≡ got x b)
+    → ((x : A) → In x → (s : List ℕ) (a b : ℕ) → WordsAt s a b (words x) → one-of cs s a ≡ got x b)
     → Reads (one-of cs) words In
 one-of-reads h back = record { forwards = λ e. one-of-inv h e; backwards = λ {s} {a} {b} {x} i p. back x i s a b p }
