@@ -11,9 +11,12 @@ pub mod Outcome
 pub mod Places
 pub mod Looks
 pub mod RunLaws
-pub mod NameLaws
-pub mod Scan
 pub mod Demand2
+pub mod NameLaws
+pub mod ByteLaws
+pub mod Scan
+pub mod RoundScan
+pub mod RoundTrip
 pub mod Examples
 pub mod Cases
 pub mod Refusals

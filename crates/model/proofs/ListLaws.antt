@@ -39,6 +39,19 @@ unfolding every
 ∈-every f [] h = refl
 ∈-every f (x ∷ l) h = and-yes (h x (List·Memᴰ·head refl)) (∈-every f l (λ a m. h a (List·Memᴰ·tail m)))
 
+-- a test of a first element and the others, and of all of two lists
+pub every-cons : {A : Type 0} (f : A → Bool) (x : A) (l : List A) → Yes (every f (x ∷ l)) → Yes (f x) × Yes (every f l)
+unfolding every
+every-cons f x l t = (and-left (f x) (every f l) t, and-right (f x) (every f l) t)
+
+pub every-append : {A : Type 0} (f : A → Bool) (l m : List A) → Yes (every f (l ++ m)) → Yes (every f l) × Yes (every f m)
+unfolding every
+every-append f [] m t = (refl, t)
+every-append f (x ∷ l) m t =
+    let (u, v) = every-cons f x (l ++ m) t in
+    let (v₁, v₂) = every-append f l m v in
+    (and-yes u v₁, v₂)
+
 -- ---- only
 
 pub ∈-only : {A : Type 0} (b : Bool) (a : A) → Yes b → a ∈ only b a
