@@ -1,10 +1,11 @@
 -- One check after another: what it tells that a sequence of checks passes, and the number that a sequence refuses with.
 use mathlib.Core.Path.{_≡_, refl, ap, subst}
-use mathlib.Core.Bool.{Bool, true, false, false≢true}
+use mathlib.Core.Logic.{_↔_}
+use mathlib.Core.Bool.{Bool, true, false}
 use Prim.Native.Nat.{ℕ}
 use native.Mathlib.Omega.{arith}
 use Rattle.model.specs.Answers.{Checked, passes, refuses, _>>=_, _>>_, require}
-use Rattle.model.proofs.Tests.{Yes}
+use Rattle.model.proofs.Tests.{Yes, never}
 
 pub refuses≢passes : {A : Type 0} {a : A} {n i : ℕ} → refuses n i ≡ passes a → ⊥
 refuses≢passes e = let z : _≡_ {A = ℕ} 0 1 = cc in omega arith
@@ -35,20 +36,15 @@ pub then-passes : {A B : Type 0} {c : Checked A} {a : A} (d : Checked B) → c �
 unfolding _>>_
 then-passes d e = rw e
 
-pub require-inv : (b : Bool) (n i : ℕ) {u : Unit {0}} → require b n i ≡ passes u → Yes b
+pub require-is : (b : Bool) (n i : ℕ) → (require b n i ≡ passes tt) ↔ Yes b
 unfolding require
-require-inv true n i e = refl
-require-inv false n i e = absurd (refuses≢passes e)
+require-is true n i = (λ e. refl, λ e. refl)
+require-is false n i = (λ e. absurd (refuses≢passes e), λ e. never e)
 
-pub required : {A : Type 0} {a : A} (b : Bool) (n i : ℕ) (c : Checked A) → (require b n i >> c) ≡ passes a → Yes b × (c ≡ passes a)
+pub required : {A : Type 0} {a : A} (b : Bool) (n i : ℕ) (c : Checked A) → ((require b n i >> c) ≡ passes a) ↔ (Yes b × (c ≡ passes a))
 unfolding require _>>_
-required true n i c e = (refl, e)
-required false n i c e = absurd (refuses≢passes e)
-
-pub require-passes : (b : Bool) (n i : ℕ) → Yes b → require b n i ≡ passes tt
-unfolding require
-require-passes true n i e = refl
-require-passes false n i e = absurd (false≢true e)
+required true n i c = (λ e. (refl, e), λ e. e .1)
+required false n i c = (λ e. absurd (refuses≢passes e), λ e. never (e .0))
 
 -- ---- the number that a sequence refuses with
 

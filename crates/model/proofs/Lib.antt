@@ -12,6 +12,14 @@ pub mod Places
 pub mod Looks
 pub mod RunLaws
 pub mod Demand2
+pub mod Pairs
+pub mod JoinOrder
+pub mod JoinCount
+pub mod RuleTargets
+pub mod Product
+pub mod JoinRange
+pub mod SwapLaws
+pub mod Demand3
 pub mod NameLaws
 pub mod ByteLaws
 pub mod Scan

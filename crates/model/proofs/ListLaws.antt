@@ -1,6 +1,6 @@
 -- Laws of lists: members, concatenating maps, ranges, pairs as numbers, ascending lists.
 use mathlib.Core.Path.{_≡_, refl, sym, ap, ap₂, _∙_, subst}
-use mathlib.Core.Logic.{_⊎_, inl, inr}
+use mathlib.Core.Logic.{_⊎_, inl, inr, _↔_}
 use mathlib.Core.Bool.{Bool, true, false}
 use mathlib.Core.List.{List, [], _∷_, _++_, map, flatMap, append-assoc, List·Memᴰ·head, List·Memᴰ·tail, List·Memᴰ·not-nil, List·Memᴰ·cases-cons, List·Memᴰ·append-cases, List·Memᴰ·eq-of-singleton, Memᴰ·append-left, Memᴰ·append-right}
 use Prim.Native.Nat.{ℕ, zero, suc, _+_, _*_, _/_, _%_, _≤_, _<_}
@@ -11,7 +11,7 @@ use lib.Dec.{eqb, ltb}
 use lib.ListN.{length, length-append}
 use Rattle.model.specs.Lists.{_∈_, has, every, only, from, numbers, row, grid, Ascending, SetBelow}
 use Rattle.model.specs.Compose.{pair}
-use Rattle.model.proofs.Tests.{Yes, never, and-yes, and-left, and-right, or-left, or-right, or-cases, same, eqb-yes}
+use Rattle.model.proofs.Tests.{Yes, Told, yea, nay, told, never, and-yes, and-left, and-right, or-left, or-right, or-cases, same, eqb-yes}
 
 -- ---- tests over a list
 
@@ -28,6 +28,13 @@ has-∈ (x ∷ l) {q} t = go (λ s. has-∈ l s) (or-cases (eqb q x) (has l q) t
     go : (Yes (has l q) → q ∈ l) → Yes (eqb q x) ⊎ Yes (has l q) → q ∈ x ∷ l
     go r (inl s) = List·Memᴰ·head (same q x s)
     go r (inr s) = List·Memᴰ·tail (r s)
+
+pub has-no : {l : List ℕ} {q : ℕ} → (q ∈ l → ⊥) → has l q ≡ false
+has-no {l} {q} f = go (told (has l q))
+  where
+    go : Told (has l q) → has l q ≡ false
+    go (yea e) = absurd (f (has-∈ l e))
+    go (nay e) = e
 
 pub every-∈ : {A : Type 0} (f : A → Bool) {l : List A} → Yes (every f l) → (a : A) → a ∈ l → Yes (f a)
 unfolding every
@@ -68,6 +75,11 @@ pub only-eq : {A : Type 0} (b : Bool) (a : A) {x : A} → x ∈ only b a → x �
 unfolding only
 only-eq true a m = List·Memᴰ·eq-of-singleton m
 only-eq false a m = absurd (List·Memᴰ·not-nil m)
+
+pub length-only : {A : Type 0} (b : Bool) (a : A) → length (only b a) ≤ 1
+unfolding only
+length-only true a = omega arith
+length-only false a = omega arith
 
 -- ---- concatenating maps
 
@@ -111,6 +123,11 @@ pub map-append : {A B : Type 0} (f : A → B) (l m : List A) → map f (l ++ m) 
 map-append f [] m = refl
 map-append f (x ∷ l) m = ap (λ r. f x ∷ r) (map-append f l m)
 
+pub map-each : {A B C : Type 0} (g : B → C) (f : A → List B) (l : List A) → map g (flatMap f l) ≡ flatMap (λ a. map g (f a)) l
+unfolding flatMap
+map-each g f [] = refl
+map-each g f (a ∷ l) = map-append g (f a) (flatMap f l) ∙ ap (λ r. map g (f a) ++ r) (map-each g f l)
+
 -- ---- ranges of numbers
 
 pub ∈-from : {i : ℕ} (n q : ℕ) → q ≤ i → i < q + n → i ∈ from n q
@@ -144,6 +161,14 @@ pub length-from : (n q : ℕ) → length (from n q) ≡ n
 unfolding from
 length-from zero q = refl
 length-from (suc n) q = ap suc (length-from n (suc q))
+
+pub ∈-filter : (f : ℕ → Bool) (k q : ℕ) → (q ∈ flatMap (λ i. only (f i) i) (numbers k)) ↔ ((q < k) × Yes (f q))
+∈-filter f k q = (there, λ (h, t). ∈-each (λ i. only (f i) i) (∈-numbers k h) (∈-only (f q) q t))
+  where
+    there : q ∈ flatMap (λ i. only (f i) i) (numbers k) → (q < k) × Yes (f q)
+    there m =
+        let (i, l, h) = each-∈ (λ i. only (f i) i) (numbers k) m in
+        subst (λ (x : ℕ). (x < k) × Yes (f x)) (sym (only-eq (f i) i h)) (numbers-< k l, only-test (f i) i h)
 
 -- ---- f of each pair of elements
 

@@ -231,8 +231,8 @@ module _ (g : ℕ) (t : List ℕ) where
   passed-words : (e : Element) → tree-of g t ≡ passes e → (t ≡ words e) × Over g e
   unfolding tree-of
   passed-words e h =
-      let (x, h′) = required _ _ _ _ h in
-      let (y, h″) = required _ _ _ _ h′ in
+      let (x, h′) = required _ _ _ _ .0 h in
+      let (y, h″) = required _ _ _ _ .0 h′ in
       let (d, p, q) = bind-inv _ _ h″ in
       let (r, a, b) = count-tests (length t) .0 x in
       let (s, z) = root-tests g (symbol-at t 0) (size-at t 0) (length t / 4) .0 y in
