@@ -1,7 +1,7 @@
 -- Document 01's cases 1 to 10: one table, and one theorem over its rows, closed by computation.
 use mathlib.Core.Path.{_≡_, refl}
 use mathlib.Core.Bool.{true}
-use mathlib.Core.List.{List, [], _∷_, _++_, map, flatMap}
+use mathlib.Core.List.{List, [], _∷_, _++_, flatMap}
 use Prim.Native.Nat.{ℕ, _*_, _/_, _%_}
 use Prim.Native.String.{String}
 use lib.Dec.{leb}

@@ -13,9 +13,9 @@ use Rattle.model.specs.Lists.{_∈_, has}
 use Rattle.model.specs.Answers.{Said, count, accepted, refused, stuck, refusal, passes, _>>=_, _>>_, require, room-for}
 use Rattle.model.specs.Tree.{Element, nodes, size, words, tree-of, Over}
 use Rattle.model.specs.Sheet.{Sheet, sheet-of, InRange}
-use Rattle.model.specs.Relation.{To, AtMostOne, ReachesTwo, Single, GivesTwo, Takes, NoState, SomeState, StatesOf, Highest}
+use Rattle.model.specs.Relation.{AtMostOne, ReachesTwo, Single, GivesTwo, Takes, NoState, SomeState, StatesOf, Highest}
 use Rattle.model.specs.Run.{Ran, ran, two-at, items, run, root-verdict, verdict}
-use Rattle.model.specs.Calls.{Judged, judge, verdict-of, judge-said, first-states, states-after, judge-states}
+use Rattle.model.specs.Calls.{judge, verdict-of, judge-said, first-states, states-after, judge-states}
 use Rattle.model.proofs.Tests.{Told, yea, nay, told}
 use Rattle.model.proofs.ListLaws.{∈-has, has-∈}
 use Rattle.model.proofs.SheetCode.{sheet-passes}

@@ -1,17 +1,17 @@
 -- Demand 3: joint and swapped sheets, as the words that join and swap write.
-use mathlib.Core.Path.{_≡_, refl, sym, ap, _∙_, subst}
+use mathlib.Core.Path.{_≡_, sym, ap, _∙_, subst}
 use mathlib.Core.Logic.{_↔_}
 use mathlib.Core.List.{List}
 use Prim.Native.Nat.{ℕ, _*_, _≤_, _<_}
 use native.Mathlib.Nat.{le-trans, mul-le-mul-left}
-use lib.Dec.{eqb, leb}
+use lib.Dec.{eqb}
 use lib.ListN.{length}
 use borrow.Author.Tests.{eqb-true}
 use Rattle.model.specs.Lists.{_∈_}
-use Rattle.model.specs.Answers.{Said, accepted, refused, refusal, Checked, passes, refuses, _>>=_, _>>_, room-for}
+use Rattle.model.specs.Answers.{Said, accepted, refusal, Checked, passes, refuses, room-for}
 use Rattle.model.specs.Tree.{Element, nodes, size, tree-of}
 use Rattle.model.specs.Sheet.{Sheet, sheet-of, sheet-words, InRange}
-use Rattle.model.specs.Relation.{To, Single, GivesTwo, Takes, Accepts}
+use Rattle.model.specs.Relation.{Single, GivesTwo, Takes, Accepts}
 use Rattle.model.specs.Compose.{pair, swapped, joint, within-limits}
 use Rattle.model.specs.Calls.{judge-said, swap, in-second, joined, join}
 use Rattle.model.proofs.Tests.{Told, yea, nay, told, same, eqb-no}

@@ -1,5 +1,5 @@
 -- What tables of examples need: the bytes of a quoted text, a pair, and a property of every row.
-use mathlib.Core.Path.{_≡_, sym, subst}
+use mathlib.Core.Path.{sym, subst}
 use mathlib.Core.List.{List, [] as []ᴸ, _∷_ as _∷ᴸ_, List·Memᴰ·head, List·Memᴰ·tail}
 use Prim.Native.Nat.{ℕ}
 use Prim.Native.String.{String, [], _∷_}

@@ -22,8 +22,14 @@ pub mod SwapLaws
 pub mod Demand3
 pub mod NameLaws
 pub mod ByteLaws
+pub mod DocumentLaws
 pub mod Scan
 pub mod RoundScan
+pub mod Rewritten
+pub mod TextLaws
+pub mod Zipper
+pub mod ReadSteps
+pub mod ReadGood
 pub mod RoundTrip
 pub mod Examples
 pub mod Cases

@@ -7,7 +7,7 @@ use Prim.Native.Nat.{ℕ, zero, suc, _+_, _*_, _/_, _%_, _≤_, _<_}
 use native.Mathlib.Nat.{mul-le-mul-right}
 use native.Mathlib.Omega.{arith}
 use lib.Arith.{digits-div, digits-mod}
-use lib.Dec.{eqb, ltb}
+use lib.Dec.{eqb}
 use lib.ListN.{length, length-append}
 use Rattle.model.specs.Lists.{_∈_, has, every, only, from, numbers, row, grid, Ascending, SetBelow}
 use Rattle.model.specs.Compose.{pair}
@@ -58,6 +58,11 @@ every-append f (x ∷ l) m t =
     let (u, v) = every-cons f x (l ++ m) t in
     let (v₁, v₂) = every-append f l m v in
     (and-yes u v₁, v₂)
+
+pub every-both : {A : Type 0} (f : A → Bool) (l m : List A) → Yes (every f l) → Yes (every f m) → Yes (every f (l ++ m))
+unfolding every
+every-both f [] m t u = u
+every-both f (x ∷ l) m t u = let (a, b) = every-cons f x l t in and-yes a (every-both f l m b u)
 
 -- ---- only
 

@@ -10,7 +10,7 @@ use lib.Dec.{eqb, leb, ltb}
 use lib.ListN.{length, getD, take, drop}
 use lib.Seq.{split-at, length-take-le}
 use borrow.Author.Tests.{eqb-true, leb-true, ltb-true}
-use Rattle.model.specs.Answers.{Checked, passes, refuses}
+use Rattle.model.specs.Answers.{passes, refuses}
 use Rattle.model.specs.Bytes.{is-name, same-bytes}
 use Rattle.model.specs.Names.{lines, prepend, bare, number-from, tag-of, name-of, good-line, lines-checked, names-of}
 use Rattle.model.proofs.Tests.{Yes, never, and-left, and-right, and-yes, same, eqb-yes}

@@ -1,11 +1,11 @@
 -- A computed example for each refusal, 1 to 11 and 20 to 24, with its neighbours: one table, one theorem over its rows.
 use mathlib.Core.Path.{_≡_, refl}
-use mathlib.Core.List.{List, [], _∷_, _++_, map, flatMap}
+use mathlib.Core.List.{List, [], _∷_, _++_, flatMap}
 use Prim.Native.Nat.{ℕ}
 use Prim.Native.String.{String}
 use lib.ListN.{length, replicate}
 use Rattle.model.specs.Lists.{_∈_, has, every, only, from, row, grid}
-use Rattle.model.specs.Answers.{Said, count, accepted, refused, stuck, refusal, Checked, refuses, _>>=_, _>>_, require, room-for, answer-of, buffer-after}
+use Rattle.model.specs.Answers.{Said, count, stuck, refusal, Checked, refuses, _>>=_, _>>_, require, room-for, answer-of, buffer-after}
 use Rattle.model.specs.Tree.{ε, size, words, nodes, text-symbol, tag-symbol, look, children-by, children, tree-of}
 use Rattle.model.specs.Sheet.{mask, set-words, signed-word, arc-word, order-words, sum-words, step-words, count-words, rule-words, sheet-words, small, then, word, one-of, all, bit, members, set-below, arc-ok, arc, order, signed, coefficient, sum, at-most-step, remainder-step, one-earlier, two-earlier, step, steps, target, text-rule, tag-rule, order-rule, count-rule, order-count-rule, rule, sheet, ended, sheet-of, file-words}
 use Rattle.model.specs.Words.{entered, next-set, last-set, meets, fits-order, reads-from, reads, occurrences, total, remainder-of, holds, truths, fits-count}
@@ -17,7 +17,7 @@ use Rattle.model.specs.Written.{source-bytes, tagged, written, text-byte
 use Rattle.model.specs.Text.{State, blank, moves, move, place-number, move-number, does, name-at, trimmed, text-at, behind, text-node, tag-node, outside, closed, moved, state-at, refusal-2, refusal-3, refusal-4, innermost, refusal-5, start-tag, refusal-6, refusal-7, number-at, first-refused, form-of}
 use Rattle.model.specs.Calls.{names-said, read-said, tree-said, write-said, sheet-said, from-file, from-file-said, verdict-of, judge-said, first-states, states-after, judge-states, swap-said, swap-out, in-second, joined, join-said, join-out}
 use Rattle.model.specs.Calls as calls
-use Rattle.model.proofs.Examples.{bytes, All, that-is-all, _and_, all-∈, Both, both}
+use Rattle.model.proofs.Examples.{bytes, All, that-is-all, _and_, all-∈, both}
 
 -- ---- the calls, on short inputs
 

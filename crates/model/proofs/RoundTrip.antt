@@ -1,221 +1,120 @@
--- What is written is read again: the pass over a written form gives the same form, with each text where its bytes now stand.
-use mathlib.Core.Path.{_≡_, refl, sym, ap, ap₂, subst₂}
-use mathlib.Core.Bool.{Bool, true, false, cond, _&&_}
-use mathlib.Core.List.{List, [], _∷_, _++_, append-assoc, append-nil}
-use Prim.Native.Nat.{ℕ, suc, _+_, _-_, _≤_, _<_}
+-- Round trip: a tree that is written is read again, and a text that is read is written and read again: the same words but for text starts.
+use mathlib.Core.Path.{_≡_, refl, sym, ap, _∙_}
+use mathlib.Core.Bool.{Bool, true, false, cond}
+use mathlib.Core.List.{List, [], _∷_, append-nil}
+use Prim.Native.Nat.{ℕ, _*_, _≤_}
 use native.Mathlib.Omega.{arith}
-use lib.Dec.{eqb, leb}
-use lib.ListN.{length, drop, length-drop}
-use lib.Seq.{length-take-le}
-use borrow.Author.Tests.{leb-true}
-use Rattle.model.specs.Lists.{every}
-use Rattle.model.specs.Answers.{passes, refuses}
-use Rattle.model.specs.Tree.{Span, Element, text, tag, Document, ε, _·_, size, sizeD, nodes, nodesD, words, wordsD, without-starts, is-text, Keeps, KeepsD, Over}
-use Rattle.model.specs.Bytes.{kind-of-text}
-use Rattle.model.specs.Names.{name-of, names-of}
-use Rattle.model.specs.Text.{Place, Open, State, blank, in-text, outside, behind, text-node, tag-node, form-of}
-use Rattle.model.specs.Written.{source-bytes, tagged, written, writtenD, trimmed-text, good-text, good-words, texts-checked}
-use Rattle.model.proofs.ListLaws.{every-cons, every-append}
-use Rattle.model.proofs.Tests.{Yes, never, and-yes, and-left, and-right, same}
-use Rattle.model.proofs.CheckLaws.{refuses≢passes}
-use Rattle.model.proofs.NameLaws.{name-is, tag-of-name}
-use Rattle.model.proofs.RoundScan.{state, an-open, content-place, Scans, nothing, then, text-run, Listed, Leads, at-root, in-content, empty-run, full-run, form-read}
+use lib.Dec.{leb}
+use lib.ListN.{length}
+use borrow.Author.Tests.{le-leb, leb-true}
+use Rattle.model.specs.Answers.{passes, refuses, _>>=_, _>>_, require, room-for}
+use Rattle.model.specs.Tree.{Element, Document, ε, _·_, size, sizeD, nodes, words, wordsD, without-starts, tree-of}
+use Rattle.model.specs.Names.{names-of}
+use Rattle.model.specs.Text.{form-of}
+use Rattle.model.specs.Written.{written, texts-checked, short-enough}
+use Rattle.model.specs.Calls.{read, write}
+use Rattle.model.proofs.CheckLaws.{refuses≢passes, passes-inj, bind-inv, then-inv, required, require-is}
+use Rattle.model.proofs.TreeLaws.{tree-passes, length-words}
+use Rattle.model.proofs.NameLaws.{few-names}
+use Rattle.model.proofs.Scan.{form-short}
+use Rattle.model.proofs.Rewritten.{written-read}
+use Rattle.model.proofs.ReadGood.{read-good}
 
--- ---- documents
+-- ---- lengths
 
--- one document behind another
-followed : Document → Document → Document
-followed ε d = d
-followed (e · c) d = e · followed c d
+length-without : (l : List ℕ) → length (without-starts l) ≡ length l
+unfolding without-starts
+length-without [] = refl
+length-without (a ∷ []) = refl
+length-without (a ∷ b ∷ []) = refl
+length-without (a ∷ b ∷ c ∷ []) = refl
+length-without (a ∷ b ∷ c ∷ d ∷ l) = let h = length-without l in omega arith
 
-followed-ε : (c : Document) → followed c ε ≡ c
-unfolding followed
-followed-ε ε = refl
-followed-ε (e · c) = ap (λ (d : Document). e · d) (followed-ε c)
+-- a document of one element has its size and its words
+one-size : (e : Element) → sizeD (e · ε) ≡ size e
+unfolding sizeD
+one-size e = omega arith
 
-followed-behind : (c : Document) (e : Element) (d : Document) → followed (behind c e) d ≡ followed c (e · d)
-unfolding followed behind
-followed-behind ε e d = refl
-followed-behind (f · c) e d = ap (λ (d : Document). f · d) (followed-behind c e d)
+one-words : (e : Element) → wordsD (e · ε) ≡ words e
+unfolding wordsD
+one-words e = append-nil (words e)
 
--- whether a document ends in a text, or, where it is empty, stands behind one
-ends-in-text : Bool → Document → Bool
-ends-in-text after-text ε = after-text
-ends-in-text after-text (e · d) = ends-in-text (is-text e) d
+-- ---- the checks of a call that passes
 
--- ---- checked text words
+room-passes : (needed room : ℕ) → needed ≤ room → room-for needed room ≡ passes tt
+unfolding room-for
+room-passes needed room h = require-is (leb needed room) 22 needed .1 (le-leb needed room h)
 
--- every node has good text words
-abbrev Good : List ℕ → List Element → Type 0
-Good s l = Yes (every (good-words s) l)
-
-checked-texts : (s : List ℕ) (i : ℕ) (l : List Element) → texts-checked s i l ≡ passes tt → Good s l
-unfolding texts-checked every
-checked-texts s i [] e = refl
-checked-texts s i (x ∷ l) e = go (good-words s x) e (checked-texts s (suc i) l)
+short-inv : (bytes : List ℕ) {b : List ℕ} → short-enough bytes ≡ passes b → (length bytes ≤ 65535) × (bytes ≡ b)
+unfolding short-enough
+short-inv bytes {b} h = go (leb (length bytes) 65535) refl h
   where
-    go : (b : Bool) → cond b (texts-checked s (suc i) l) (refuses 11 i) ≡ passes tt → (texts-checked s (suc i) l ≡ passes tt → Good s l)
-        → Yes (b && every (good-words s) l)
-    go true e h = h e
-    go false e h = absurd (refuses≢passes e)
+    go : (t : Bool) → leb (length bytes) 65535 ≡ t → cond t (passes bytes) (refuses 24 (length bytes)) ≡ passes b → (length bytes ≤ 65535) × (bytes ≡ b)
+    go true e h = (leb-true (length bytes) 65535 e, passes-inj h)
+    go false e h = absurd (refuses≢passes h)
 
--- a tag's words
-no-bytes : (s : List ℕ) (a : ℕ) (w : Span) (d : Document) → Yes (good-words s (tag a w d)) → w .bytes ≡ 0
-unfolding good-words
-no-bytes s a w d t = same (w .bytes) 0 (and-right (eqb (w .start) 0) (eqb (w .bytes) 0) t)
+-- a call of write that passes: its list, its form, and its bytes
+record Writes (list s tree bytes : List ℕ) : Type 0 where
+  tags : ℕ
+  form : Element
+  names : names-of list ≡ passes tags
+  tree-is : tree-of tags tree ≡ passes form
+  texts : texts-checked s 0 (nodes form) ≡ passes tt
+  short : length (written list s form) ≤ 65535
+  bytes-are : written list s form ≡ bytes
 
--- a text's words, test by test
-record GoodText (s : List ℕ) (k : ℕ) (w : Span) : Type 0 where
-  long : length (source-bytes s w) ≡ w .bytes
-  solid : Yes (trimmed-text (source-bytes s w))
-  kind-is : kind-of-text (source-bytes s w) ≡ k
+write-inv : (list s tree : List ℕ) (room : ℕ) {bytes : List ℕ} → write list s tree room ≡ passes bytes → Writes list s tree bytes
+unfolding write
+write-inv list s tree room h =
+    let (g, names, h₁) = bind-inv (names-of list) _ h in
+    let (y, h₂) = required (leb (length s) 65535) 1 65535 _ .0 h₁ in
+    let (e, tree-is, h₃) = bind-inv (tree-of g tree) _ h₂ in
+    let (u, texts, h₄) = then-inv (texts-checked s 0 (nodes e)) _ h₃ in
+    let (b, shorts, h₅) = bind-inv (short-enough (written list s e)) _ h₄ in
+    let (v, fits, h₆) = then-inv (room-for (length b) room) _ h₅ in
+    let (short, e₁) = short-inv (written list s e) shorts in
+    record { tags = g; form = e; names = names; tree-is = tree-is; texts = texts; short = short; bytes-are = e₁ ∙ passes-inj h₆ }
 
-good-text-is : (s : List ℕ) (k : ℕ) (w : Span) → Yes (good-text s k w) → GoodText s k w
-unfolding good-text source-bytes
-good-text-is s k w t =
-    let inside = leb (w .start + w .bytes) (length s) in
-    let solid = trimmed-text (source-bytes s w) in
-    let kind-is = eqb (kind-of-text (source-bytes s w)) k in
-    let fits = leb-true (w .start + w .bytes) (length s) (and-left inside (solid && kind-is) t) in
-    let more = and-right inside (solid && kind-is) t in
-    record {
-      long = length-take-le (w .bytes) (drop (w .start) s) (omega (arith, length-drop (w .start) s));
-      solid = and-left solid kind-is more;
-      kind-is = same (kind-of-text (source-bytes s w)) k (and-right solid kind-is more);
-    }
+writes-pass : (list s tree : List ℕ) (room g : ℕ) (e : Element) → names-of list ≡ passes g → length s ≤ 65535 → tree-of g tree ≡ passes e
+    → texts-checked s 0 (nodes e) ≡ passes tt → length (written list s e) ≤ 65535 → length (written list s e) ≤ room → write list s tree room ≡ passes (written list s e)
+unfolding write short-enough _>>=_ _>>_ require
+writes-pass list s tree room g e names long tree-is texts short fits =
+    rw (names, le-leb (length s) 65535 long, tree-is, texts, le-leb (length (written list s e)) 65535 short, room-passes (length (written list s e)) room fits)
 
-module _ (list s : List ℕ) where
-  -- where the content of a tag begins, if the tag is written from offset i on
-  abbrev content-at : ℕ → ℕ → ℕ
-  content-at i a = suc (i + suc (length (name-of list a)))
+-- ---- written and read again
 
-  -- an element, and a document, with each text where its bytes stand, if it is written from offset i on
-  mutual
-    placed : ℕ → Element → Element
-    placed i (text k w) = text k (record { start = i; bytes = w .bytes })
-    placed i (tag a w d) = tag-node a (placedD (content-at i a) d)
+-- For every tree and text that pass 10 and 11 and are not over 24: what is written is read as the same words but for text starts.
+pub write-read : (list s tree : List ℕ) (room : ℕ) {bytes : List ℕ} → write list s tree room ≡ passes bytes
+    → (again : ℕ) → length tree ≤ again → (d : Document) × (read list bytes again ≡ passes d) × (without-starts (wordsD d) ≡ without-starts tree)
+unfolding read _>>=_ _>>_
+write-read list s tree room {bytes} h again fits =
+    let w = write-inv list s tree room h in
+    let (t, over) = tree-passes (w .tags) (few-names list (w .tags) (w .names)) tree (w .form) .0 (w .tree-is) in
+    let (f, reads, same) = written-read list s (w .tags) (w .form) (w .names) over (w .texts) (w .short) in
+    let long : length (words f) ≡ length tree = sym (length-without (words f)) ∙ ap length same ∙ length-without (words (w .form)) ∙ ap length (sym t) in
+    let fits′ : 4 * sizeD (f · ε) ≤ again = omega (arith, one-size f, length-words f) in
+    let reads′ : form-of list bytes ≡ passes (f · ε) = ap (form-of list) (sym (w .bytes-are)) ∙ reads in
+    (f · ε, rw (w .names, reads′, room-passes (4 * sizeD (f · ε)) again fits′), ap without-starts (one-words f) ∙ same ∙ ap without-starts (sym t))
 
-    placedD : ℕ → Document → Document
-    placedD i ε = ε
-    placedD i (e · d) = placed i e · placedD (i + length (written list s e)) d
+-- For every text and name list that read takes, the tree is refused by nothing, 24 included, where there is room for as many
+-- bytes as the text has.
+pub read-write : (list s : List ℕ) (room : ℕ) {d : Document} → read list s room ≡ passes d
+    → (again : ℕ) → length s ≤ again → (bytes : List ℕ) × (write list s (wordsD d) again ≡ passes bytes)
+unfolding read
+read-write list s room {d} h again fits =
+    let (g, names, h₁) = bind-inv (names-of list) _ h in
+    let (c, reads, h₂) = bind-inv (form-of list s) _ h₁ in
+    let (u, roomy, h₃) = then-inv (room-for (4 * sizeD c) room) _ h₂ in
+    let (e, one, over, texts, short) = read-good list s g c names reads in
+    let long : length s ≤ 65535 = form-short list s reads in
+    let t : wordsD d ≡ words e = ap wordsD (sym (passes-inj h₃) ∙ one) ∙ one-words e in
+    let tree-is : tree-of g (wordsD d) ≡ passes e = tree-passes g (few-names list g names) (wordsD d) e .1 (t, over) in
+    (written list s e, writes-pass list s (wordsD d) again g e names long tree-is texts (omega arith) (omega arith))
 
-  -- it is as large
-  mutual
-    unfolding size placed tag-node
-
-    placed-size : (e : Element) (i : ℕ) → size (placed i e) ≡ size e
-    placed-size (text k w) i = refl
-    placed-size (tag a w d) i = ap suc (placed-sizeD d (content-at i a))
-
-    placed-sizeD : (d : Document) (i : ℕ) → sizeD (placedD i d) ≡ sizeD d
-    placed-sizeD ε i = refl
-    placed-sizeD (e · d) i = ap₂ _+_ (placed-size e i) (placed-sizeD d (i + length (written list s e)))
-
-  -- it has the same words but for text starts
-  mutual
-    unfolding words nodes without-starts placed tag-node
-
-    placed-words : (e : Element) (i : ℕ) → Good s (nodes e) → (r r′ : List ℕ) → without-starts r ≡ without-starts r′
-        → without-starts (words (placed i e) ++ r) ≡ without-starts (words e ++ r′)
-    placed-words (text k w) i t r r′ h = rw h
-    placed-words (tag a w d) i t r r′ h =
-        let (u, v) = every-cons (good-words s) (tag a w d) (nodesD d) t in
-        rw (no-bytes s a w d u, placed-sizeD d (content-at i a), placed-wordsD d (content-at i a) v r r′ h)
-
-    placed-wordsD : (d : Document) (i : ℕ) → Good s (nodesD d) → (r r′ : List ℕ) → without-starts r ≡ without-starts r′
-        → without-starts (wordsD (placedD i d) ++ r) ≡ without-starts (wordsD d ++ r′)
-    placed-wordsD ε i t r r′ h = h
-    placed-wordsD (e · d) i t r r′ h =
-        let (u, v) = every-append (good-words s) (nodes e) (nodesD d) t in
-        let j = i + length (written list s e) in
-        rw (append-assoc (words (placed i e)) (wordsD (placedD j d)) r, append-assoc (words e) (wordsD d) r′)
-        (placed-words e i u (wordsD (placedD j d) ++ r) (wordsD d ++ r′) (placed-wordsD d j v r r′ h))
-
-  -- ---- the pass over a written form
-
-  -- the state come to, put another way
-  ends-as : {st : State} {i : ℕ} {xs rest : List ℕ} {p : Place} {c c′ : Document} {os : List Open} {n n′ : ℕ}
-      → Scans list st i xs rest (state p c os n) → c ≡ c′ → n ≡ n′ → Scans list st i xs rest (state p c′ os n′)
-  ends-as {st} {i} {xs} {rest} {p} {os = os} r e f = subst₂ (λ c n. Scans list st i xs rest (state p c os n)) e f r
-
-  -- a text, which stands behind no text
-  read-text : (k : ℕ) (w : Span) (after-text : Bool) → (after-text && true) ≡ false → Yes (good-text s k w)
-      → {c : Document} {os : List Open} {n i : ℕ} (rest : List ℕ) → n < 4096
-      → Scans list (state (content-place after-text) c os n) i (source-bytes s w) (60 ∷ rest) (state in-text (behind c (placed i (text k w))) os (n + 1))
-  unfolding placed text-node
-  read-text k w true apart t rest room = never (sym apart)
-  read-text k w false apart t {c} {i = i} rest room =
-      let good = good-text-is s k w t in
-      ends-as (text-run list (source-bytes s w) (good .solid) room)
-      (ap₂ (λ kind bytes. behind c (text kind (record { start = i; bytes = bytes }))) (good .kind-is) (good .long)) (omega arith)
-
-  -- behind a text stands the < of a tag or of the parent's end
-  less-next : (g levels : ℕ) (after-text : Bool) (d : Document) → KeepsD g levels after-text d → Yes after-text
-      → (rest : List ℕ) → (r : List ℕ) × (writtenD list s d ++ (60 ∷ rest) ≡ 60 ∷ r)
-  unfolding written tagged is-text
-  less-next g levels after-text ε keeps t rest = (rest, refl)
-  less-next g levels after-text (text k w · d) keeps t rest = never (sym (rw t at (keeps .0)))
-  less-next g levels after-text (tag a w ε · d) keeps t rest = (_, refl)
-  less-next g levels after-text (tag a w (e · c) · d) keeps t rest = (_, refl)
-
-  module _ (g : ℕ) (checked : names-of list ≡ passes g) where
-    -- a tag's name, in a checked list
-    listed : (a : ℕ) → 1 ≤ a → a ≤ g → Listed list (name-of list a) a
-    listed a h k = record { named = name-is list g checked a h k; tag-is = tag-of-name list g checked a h k; some = λ e. omega arith }
-
-    -- a tag, where its content is read
-    read-tag : (a : ℕ) (w : Span) (d : Document) → 1 ≤ a → a ≤ g → {p q : Place} → Leads list p q
-        → {c : Document} {os : List Open} {n i : ℕ} {rest : List ℕ} → length os < 32 → n < 4096
-        → (let j = content-at i a in let os′ = an-open a c ∷ os in (r : List ℕ)
-        → Scans list (state blank ε os′ (suc n)) j (writtenD list s d) (60 ∷ r)
-        (state (content-place (ends-in-text false d)) (placedD j d) os′ (suc n + sizeD d)))
-        → Scans list (state p c os n) i (written list s (tag a w d)) rest (state (outside os) (behind c (placed i (tag a w d))) os (n + suc (sizeD d)))
-    unfolding written tagged placed size
-    read-tag a w ε h k leads deep room content = ends-as (empty-run list leads (listed a h k) deep room) refl (omega arith)
-    read-tag a w (e · d) h k leads deep room content =
-        ends-as (full-run list leads (listed a h k) deep room (in-content list (ends-in-text false (e · d))) content) refl (omega arith)
-
-    -- an element, and a document, in the content of an open one
-    mutual
-      unfolding size nodes good-words written placed is-text outside followed ends-in-text
-
-      read-element : (e : Element) (levels : ℕ) (after-text : Bool) → (after-text && is-text e) ≡ false → Keeps g levels e
-          → {c : Document} {o : Open} {os : List Open} {n i : ℕ} (rest : List ℕ) → suc (length os) + levels ≤ 32 → n + size e ≤ 4096 → Good s (nodes e)
-          → (Yes (is-text e) → (r : List ℕ) × (rest ≡ 60 ∷ r))
-          → Scans list (state (content-place after-text) c (o ∷ os) n) i (written list s e) rest
-          (state (content-place (is-text e)) (behind c (placed i e)) (o ∷ os) (n + size e))
-      read-element (text k w) levels after-text apart keeps rest deep few good next =
-          let (r, e) = next refl in
-          rw e (read-text k w after-text apart (every-cons (good-words s) (text k w) [] good .0) r (omega arith))
-      read-element (tag a w d) levels after-text apart keeps rest deep few good next =
-          read-tag a w d (keeps .0) (keeps .1) (in-content list after-text) (omega arith) (omega arith)
-          (λ r. read-document d (levels - 1) false (keeps .3) r (omega arith) (omega arith) (every-cons (good-words s) (tag a w d) (nodesD d) good .1))
-
-      read-document : (d : Document) (levels : ℕ) (after-text : Bool) → KeepsD g levels after-text d
-          → {c : Document} {o : Open} {os : List Open} {n i : ℕ} (rest : List ℕ) → suc (length os) + levels ≤ 32 → n + sizeD d ≤ 4096 → Good s (nodesD d)
-          → Scans list (state (content-place after-text) c (o ∷ os) n) i (writtenD list s d) (60 ∷ rest)
-          (state (content-place (ends-in-text after-text d)) (followed c (placedD i d)) (o ∷ os) (n + sizeD d))
-      read-document ε levels after-text keeps {c} rest deep few good = ends-as (nothing list) (sym (followed-ε c)) (omega arith)
-      read-document (e · d) levels after-text keeps {c} {i = i} rest deep few good =
-          let (u, v) = every-append (good-words s) (nodes e) (nodesD d) good in
-          ends-as
-          (then list
-          (read-element e levels after-text (keeps .0) (keeps .1) (writtenD list s d ++ (60 ∷ rest)) deep (omega arith) u
-          (λ t. less-next g levels (is-text e) d (keeps .2) t rest))
-          (read-document d levels (is-text e) (keeps .2) rest deep (omega arith) v))
-          (followed-behind c (placed i e) (placedD (i + length (written list s e)) d)) (omega arith)
-
--- A form that the writer writes is read again, with the same words but for text starts.
-pub written-read : (list s : List ℕ) (g : ℕ) (e : Element) → names-of list ≡ passes g → Over g e → texts-checked s 0 (nodes e) ≡ passes tt
-    → length (written list s e) ≤ 65535
-    → (f : Element) × (form-of list (written list s e) ≡ passes (f · ε)) × (without-starts (words f) ≡ without-starts (words e))
-unfolding is-text size nodes behind outside followed
-written-read list s g (text k w) checked over texts short = never (sym (over .root))
-written-read list s g (tag a w d) checked over texts short =
-    let good = checked-texts s 0 (nodes (tag a w d)) texts in (
-      placed list s 0 (tag a w d),
-      form-read list short
-          (read-tag list s g checked a w d (over .keeps .0) (over .keeps .1) (at-root list) (omega arith) (omega arith)
-          (λ r. read-document list s g checked d 31 false (over .keeps .3) r (omega arith) (omega arith) (every-cons (good-words s) (tag a w d) (nodesD d) good .1))),
-      simp append-nil at (placed-words list s (tag a w d) 0 good [] [] refl),
-    )
+-- And read again it is the same words but for text starts.
+pub read-write-read : (list s : List ℕ) (room : ℕ) {d : Document} → read list s room ≡ passes d → (again : ℕ) → length s ≤ again
+    → (bytes : List ℕ) × (write list s (wordsD d) again ≡ passes bytes)
+    × ((c : Document) × (read list bytes (length (wordsD d)) ≡ passes c) × (without-starts (wordsD c) ≡ without-starts (wordsD d)))
+read-write-read list s room {d} h again fits =
+    let (bytes, w) = read-write list s room h again fits in
+    (bytes, w, write-read list s (wordsD d) again w (length (wordsD d)) (omega arith))

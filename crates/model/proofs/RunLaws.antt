@@ -1,5 +1,5 @@
 -- The run on the nodes of a tree says what the transition relation gives, and its looks are at most 2 × nodes × rules.
-use mathlib.Core.Path.{_≡_, refl, sym, ap, ap₂, _∙_}
+use mathlib.Core.Path.{_≡_, refl, sym, ap, _∙_}
 use mathlib.Core.Logic.{_↔_}
 use mathlib.Core.Bool.{Bool, false}
 use mathlib.Core.List.{List, [], _∷_, _++_, map, append-assoc, append-nil, Memᴰ·append-left}
@@ -7,7 +7,7 @@ use mathlib.Core.Option.{Option, none, some, Option·map}
 use Prim.Native.Nat.{ℕ, zero, suc, _+_, _-_, _*_, _≤_}
 use native.Mathlib.Nat.{zero-add, suc-add}
 use native.Mathlib.Omega.{arith}
-use lib.ListN.{length, length-append}
+use lib.ListN.{length}
 use borrow.Author.Tests.{lt-ltb, le-ltb}
 use Rattle.model.specs.Lists.{_∈_}
 use Rattle.model.specs.Tree.{Span, Element, text, tag, Document, ε, _·_, size, sizeD, nodes, nodesD, words, wordsD, is-text, Keeps, KeepsD, Over}

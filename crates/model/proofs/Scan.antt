@@ -1,16 +1,18 @@
 -- Reading in one pass: from a state on, the first refusal, or the content at the end. It is what the refusals, each by itself, declare.
-use mathlib.Core.Path.{_≡_, refl, sym, ap, ap₂, _∙_}
+use mathlib.Core.Path.{_≡_, refl, sym, ap, _∙_}
 use mathlib.Core.Bool.{Bool, true, false, cond, not}
 use mathlib.Core.List.{List, [], _∷_}
 use Prim.Native.Nat.{ℕ, zero, suc, _+_, _≤_, _<_}
 use native.Mathlib.Omega.{arith}
 use lib.Dec.{eqb, leb}
-use lib.ListN.{length, drop, getD, drop-of-length-le}
+use lib.ListN.{length, drop, drop-of-length-le}
 use lib.Seq.{drop-cons}
-use Rattle.model.specs.Answers.{Checked, passes, refuses, _>>=_, _>>_, require}
+use borrow.Author.Tests.{leb-true}
+use Rattle.model.specs.Answers.{Checked, passes, refuses, _>>_, require}
 use Rattle.model.specs.Tree.{Document}
 use Rattle.model.specs.Bytes.{class-of}
 use Rattle.model.specs.Text.{State, start, to, after, move, move-at, does, moved, state-at, refusal-2, refusal-3, refusal-4, refusal-5, refusal-6, refusal-7, number-at, first-refused, form-of}
+use Rattle.model.proofs.CheckLaws.{required}
 
 unfoldable pub scan : List ℕ → State → ℕ → List ℕ → Checked Document
 scan list st i [] = cond (does (to (st .place)) (to after)) (passes (st .content)) (refuses 3 i)
@@ -68,3 +70,8 @@ module _ (list s : List ℕ) where
       go : (b : Bool) → scan list start 0 s ≡ (first-refused number (suc (length s)) 0 >> passes content) → (require b 1 65535 >> (first-refused number (suc (length s)) 0 >> passes content)) ≡ cond b (scan list start 0 s) (refuses 1 65535)
       go true e = sym e
       go false e = refl
+
+-- a text that is read has at most 65,535 bytes
+pub form-short : (list s : List ℕ) {d : Document} → form-of list s ≡ passes d → length s ≤ 65535
+unfolding form-of
+form-short list s e = leb-true (length s) 65535 (required (leb (length s) 65535) 1 65535 _ .0 e .0)

@@ -1,9 +1,9 @@
 -- Tests: a Bool that is true, by `b ≡ true`. (Of the library's `T b` antt doesn't find b where a proof is handed over.)
-use mathlib.Core.Path.{_≡_, refl, sym, ap, _∙_, subst}
+use mathlib.Core.Path.{_≡_, refl, sym, ap, _∙_}
 use mathlib.Core.Logic.{_⊎_, inl, inr, _≢_}
 use mathlib.Core.Bool.{Bool, true, false, not, _&&_, _||_, false≢true}
-use Prim.Native.Nat.{ℕ, _≤_, _<_}
-use lib.Dec.{eqb, leb, ltb}
+use Prim.Native.Nat.{ℕ, _≤_}
+use lib.Dec.{eqb, leb}
 use borrow.Author.Tests as tests
 
 abbrev pub Yes : Bool → Type 0

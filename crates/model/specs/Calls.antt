@@ -5,8 +5,8 @@ use mathlib.Core.List.{List, _++_}
 use Prim.Native.Nat.{ℕ, _+_, _*_}
 use lib.Dec.{eqb, leb}
 use lib.ListN.{length, drop, replicate}
-use Rattle.model.specs.Answers.{Said, count, refusal, Checked, passes, refuses, _>>=_, _>>_, require, room-for, answer-of, buffer-after}
-use Rattle.model.specs.Tree.{Element, Document, size, sizeD, nodes, words, wordsD, tree-of}
+use Rattle.model.specs.Answers.{Said, refusal, Checked, passes, refuses, _>>=_, require, room-for, answer-of, buffer-after, _>>_}
+use Rattle.model.specs.Tree.{Document, size, sizeD, nodes, wordsD, tree-of}
 use Rattle.model.specs.Sheet.{Sheet, sheet-of, sheet-words, file-words}
 use Rattle.model.specs.Run.{Ran, ran, two-at, items, run, verdict}
 use Rattle.model.specs.Compose.{swapped, joint, within-limits}

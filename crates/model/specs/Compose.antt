@@ -1,13 +1,13 @@
 -- Swapping and joining sheets: document 01, "Swapping and joining". Swapping complements the final states; a join is the
 -- product of two automata (source document 001, section 5), with the pairs of final states final.
-use mathlib.Core.Bool.{Bool, true, false, cond, not, _&&_}
+use mathlib.Core.Bool.{not}
 use mathlib.Core.List.{List, [], _∷_, _++_, map, flatMap}
 use mathlib.Core.Option.{Option, none, some}
-use Prim.Native.Nat.{ℕ, zero, suc, _+_, _-_, _*_, _/_, _%_}
+use Prim.Native.Nat.{ℕ, zero, _+_, _-_, _*_, _/_, _%_}
 use lib.Dec.{eqb, leb}
 use lib.ListN.{length}
 use Rattle.model.specs.Lists.{has, every, only, numbers, grid}
-use Rattle.model.specs.Answers.{Checked, passes, refuses, _>>=_, _>>_, require}
+use Rattle.model.specs.Answers.{Checked, require, _>>_}
 use Rattle.model.specs.Sheet.{Sheet, Rule, one, two, three, Order, Arc, Coefficient, Step, at-most, remainder, not-step, and-step, or-step, sheet-words}
 
 -- Swapping turns every final bit below p.

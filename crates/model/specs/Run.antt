@@ -1,10 +1,9 @@
 -- The run on the nodes of a tree and its looks: document 01, "The run and its looks".
 use mathlib.Core.Bool.{Bool, true, false, cond, _&&_}
-use mathlib.Core.List.{List, [], _∷_, _++_, flatMap}
+use mathlib.Core.List.{List, [], _∷_, flatMap}
 use mathlib.Core.Option.{Option, none, some, Option·map}
 use Prim.Native.Nat.{ℕ, zero, suc, _+_, _-_}
 use lib.Dec.{eqb, ltb}
-use lib.ListN.{length}
 use Rattle.model.specs.Lists.{has, only}
 use Rattle.model.specs.Answers.{Said, accepted, refused, stuck, refusal}
 use Rattle.model.specs.Sheet.{Rule, one, two, three}

@@ -1,13 +1,13 @@
 -- The sheet: document 01, "The sheet", and refusal 9. A sheet is a sheaves automaton (source document 001, section 5).
 use mathlib.Core.Path.{_≡_}
-use mathlib.Core.Bool.{Bool, true, false, cond, _&&_}
+use mathlib.Core.Bool.{Bool, true, cond, _&&_}
 use mathlib.Core.List.{List, [], _∷_, _++_, map, flatMap}
 use mathlib.Core.Option.{Option, none, some}
 use Prim.Native.Nat.{ℕ, zero, suc, _+_, _-_, _*_, _/_, _%_, _^_, _≤_, _<_, min}
 use lib.Dec.{eqb, ltb, leb}
 use lib.ListN.{length, getD, take}
 use lib.IntN.{ℤ, pos, negsuc}
-use Rattle.model.specs.Lists.{_∈_, has, only, from, numbers, Ascending, SetBelow}
+use Rattle.model.specs.Lists.{_∈_, has, only, numbers, SetBelow}
 use Rattle.model.specs.Answers.{Checked, passes, refuses}
 
 -- ---- sheets

@@ -1,12 +1,12 @@
 -- Reading a form: document 01, "Text and names", refusals 1 to 7, and the tree of a text.
-use mathlib.Core.Bool.{Bool, true, false, cond, not, _&&_, _||_}
-use mathlib.Core.List.{List, [], _∷_, _++_}
-use Prim.Native.Nat.{ℕ, zero, suc, _+_, _-_}
+use mathlib.Core.Bool.{Bool, false, cond, not, _&&_, _||_}
+use mathlib.Core.List.{List, [], _∷_}
+use Prim.Native.Nat.{ℕ, zero, suc}
 use lib.Dec.{eqb, leb}
 use lib.ListN.{length, drop, getD}
-use Rattle.model.specs.Answers.{Checked, passes, refuses, _>>=_, _>>_, require}
-use Rattle.model.specs.Tree.{Span, Element, text, tag, Document, ε, _·_}
-use Rattle.model.specs.Bytes.{Class, white, letter, less, forbidden, class-number, is, class-of, letter-byte, name-byte, kind-of-text}
+use Rattle.model.specs.Answers.{Checked, passes, refuses, require, _>>_}
+use Rattle.model.specs.Tree.{Element, text, tag, Document, ε, _·_}
+use Rattle.model.specs.Bytes.{Class, white, less, forbidden, class-number, is, class-of, letter-byte, name-byte, kind-of-text}
 use Rattle.model.specs.Names.{tag-of}
 
 -- ---- the grammar of a form, as an automaton over classes

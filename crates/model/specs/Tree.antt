@@ -5,7 +5,7 @@ use mathlib.Core.List.{List, [], _∷_, _++_}
 use Prim.Native.Nat.{ℕ, zero, suc, _+_, _-_, _*_, _/_, _%_, _≤_, _<_}
 use lib.Dec.{eqb, leb, ltb}
 use lib.ListN.{length, getD}
-use Rattle.model.specs.Answers.{Checked, passes, refuses, _>>=_, _>>_, require}
+use Rattle.model.specs.Answers.{Checked, passes, refuses, require, _>>=_, _>>_}
 
 -- ---- documents
 

@@ -1,13 +1,13 @@
 -- Writing a form: document 01, "The writer gives", refusals 11 and 24.
-use mathlib.Core.Bool.{Bool, true, false, cond, not, _&&_}
+use mathlib.Core.Bool.{Bool, false, cond, not, _&&_}
 use mathlib.Core.List.{List, [], _∷_, _++_}
-use Prim.Native.Nat.{ℕ, zero, suc, _+_}
+use Prim.Native.Nat.{ℕ, suc, _+_}
 use lib.Dec.{eqb, leb}
 use lib.ListN.{length, take, drop, getD}
 use Rattle.model.specs.Lists.{every}
-use Rattle.model.specs.Answers.{Checked, passes, refuses, _>>=_, _>>_, require}
+use Rattle.model.specs.Answers.{Checked, passes, refuses}
 use Rattle.model.specs.Tree.{Span, Element, text, tag, Document, ε, _·_}
-use Rattle.model.specs.Bytes.{Class, white, less, greater, forbidden, is, class-of, kind-of-text}
+use Rattle.model.specs.Bytes.{white, less, greater, forbidden, is, class-of, kind-of-text}
 use Rattle.model.specs.Names.{name-of}
 
 -- the bytes that a span of the source has
