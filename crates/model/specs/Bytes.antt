@@ -40,6 +40,19 @@ class-of b =
     (cond (eqb b 38) forbidden
     (cond (within 33 126 b) other forbidden))))))))
 
+-- the bytes <, >, / and the one that ends a line
+abbrev pub less-byte : ℕ
+less-byte = 60
+
+abbrev pub greater-byte : ℕ
+greater-byte = 62
+
+abbrev pub slash-byte : ℕ
+slash-byte = 47
+
+abbrev pub line-feed : ℕ
+line-feed = 10
+
 -- a name is a letter, then letters, digits, hyphens
 unfoldable pub letter-byte : ℕ → Bool
 letter-byte b = is (class-of b) letter

@@ -5,7 +5,7 @@ use Prim.Native.Nat.{ℕ, suc, _+_, _-_}
 use lib.Dec.{eqb, leb, ltb}
 use lib.ListN.{length, take, getD}
 use Rattle.model.specs.Answers.{Checked, passes, refuses}
-use Rattle.model.specs.Bytes.{is-name, same-bytes}
+use Rattle.model.specs.Bytes.{line-feed, is-name, same-bytes}
 
 -- the lines of a list of bytes, each with the byte 10 that ends it; the last may lack it
 unfoldable pub prepend : ℕ → List (List ℕ) → List (List ℕ)
@@ -14,7 +14,7 @@ prepend b (l ∷ ls) = (b ∷ l) ∷ ls
 
 unfoldable pub lines : List ℕ → List (List ℕ)
 lines [] = []
-lines (b ∷ s) = cond (eqb b 10) ((b ∷ []) ∷ lines s) (prepend b (lines s))
+lines (b ∷ s) = cond (eqb b line-feed) ((b ∷ []) ∷ lines s) (prepend b (lines s))
 
 -- a line without its last byte
 abbrev pub bare : List ℕ → List ℕ
@@ -35,7 +35,7 @@ name-of list a = bare (getD (lines list) (a - 1) [])
 -- A line holds a name of 1 to 24 bytes and byte 10; it is not the 65th, and no line before it, of which there are k, holds its name.
 unfoldable pub good-line : List (List ℕ) → ℕ → List ℕ → Bool
 good-line all k l =
-    ltb k 64 && (leb (length (bare l)) 24 && (eqb (getD l (length l - 1) 0) 10 && (is-name (bare l) && eqb (number-from 0 (bare l) (take k all)) 0)))
+    ltb k 64 && (leb (length (bare l)) 24 && (eqb (getD l (length l - 1) 0) line-feed && (is-name (bare l) && eqb (number-from 0 (bare l) (take k all)) 0)))
 
 -- the first byte of the first bad line; the lines from line k on begin at the offset
 unfoldable pub lines-checked : List (List ℕ) → (k offset : ℕ) → List (List ℕ) → Checked ℕ

@@ -7,7 +7,7 @@ use lib.ListN.{length, take, drop, getD}
 use Rattle.model.specs.Lists.{every}
 use Rattle.model.specs.Answers.{Checked, passes, refuses}
 use Rattle.model.specs.Tree.{Span, Element, text, tag, Document, ε, _·_}
-use Rattle.model.specs.Bytes.{white, less, greater, forbidden, is, class-of, kind-of-text}
+use Rattle.model.specs.Bytes.{white, less, greater, forbidden, is, class-of, less-byte, greater-byte, slash-byte, kind-of-text}
 use Rattle.model.specs.Names.{name-of}
 
 -- the bytes that a span of the source has
@@ -18,8 +18,9 @@ source-bytes source w = take (w .bytes) (drop (w .start) source)
 
 -- <name/> for an empty element; <name> and </name> around any other content
 unfoldable pub tagged : List ℕ → Document → List ℕ → List ℕ
-tagged name ε content = 60 ∷ (name ++ (47 ∷ 62 ∷ []))
-tagged name (e · d) content = 60 ∷ (name ++ (62 ∷ (content ++ (60 ∷ 47 ∷ (name ++ (62 ∷ []))))))
+tagged name ε content = less-byte ∷ (name ++ (slash-byte ∷ greater-byte ∷ []))
+tagged name (e · d) content =
+    less-byte ∷ (name ++ (greater-byte ∷ (content ++ (less-byte ∷ slash-byte ∷ (name ++ (greater-byte ∷ []))))))
 
 -- no white between tags, texts by their bytes
 unfoldable mutual
