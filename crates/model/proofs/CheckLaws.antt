@@ -27,6 +27,10 @@ pub bind-passes : {A B : Type 0} {c : Checked A} {a : A} (f : A → Checked B) �
 unfolding _>>=_
 bind-passes f e = rw e
 
+pub bind-refused : {A B : Type 0} {c : Checked A} {n i : ℕ} (f : A → Checked B) → c ≡ refuses n i → (c >>= f) ≡ refuses n i
+unfolding _>>=_
+bind-refused f e = rw e
+
 pub then-inv : {A B : Type 0} (c : Checked A) (d : Checked B) {b : B} → (c >> d) ≡ passes b → (a : A) × (c ≡ passes a) × (d ≡ passes b)
 unfolding _>>_
 then-inv (passes a) d e = (a, refl, e)

@@ -21,6 +21,7 @@ pub mod JoinRange
 pub mod SwapLaws
 pub mod Demand3
 pub mod NameLaws
+pub mod Answered
 pub mod ByteLaws
 pub mod DocumentLaws
 pub mod Scan

@@ -135,6 +135,11 @@ module _ (t : List ℕ) (g : ℕ) where
       seen-stands (children t g steps) levels i end after-text _ d (view t g levels i end after-text) a b
       (λ l j n p c lt le k. stands steps l j n p c (omega arith) le (omega arith)) e
 
+-- children that pass fill the nodes up to `end`
+pub children-fill : (t : List ℕ) (g levels i end : ℕ) (after-text : Bool) (d : Document) → i ≤ end → 4 * end ≤ length t
+    → children t g (length t) levels i end after-text ≡ passes d → i + sizeD d ≡ end
+children-fill t g levels i end after-text d a b e = stands t g (length t) levels i end after-text d (omega arith) a b e .count
+
 -- ---- from a document to its words
 
 -- what follows an element's words

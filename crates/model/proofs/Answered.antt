@@ -1,0 +1,81 @@
+-- What an answer tells of the check that it answers for.
+use mathlib.Core.Path.{_≡_, refl, sym, ap, _∙_}
+use mathlib.Core.List.{List}
+use Prim.Native.Nat.{ℕ}
+use native.Mathlib.Omega.{arith}
+use Rattle.model.specs.Answers.{count, refusal, said, said-refusal, Checked, passes, refuses, answer-of}
+use Rattle.model.specs.Tree.{Element, size, tree-of}
+use Rattle.model.specs.Names.{names-of}
+use Rattle.model.specs.Calls.{names-said, tree-said}
+use Rattle.model.specs.declared.Answer.{Answer}
+use Rattle.model.specs.declared.Answer.the-variants.{Count, Error}
+use Rattle.model.specs.declared.Refusal.{Refusal}
+use Rattle.model.specs.declared.Refusal.the-variants.{LongText, ForbiddenByte, Syntax, UnknownName, OtherName, Depth, ManyNodes, NameList, Sheet, Tree, TextWords, TagCounts, JointLimit, ShortBuffer, TwoStates, LongForm}
+use Rattle.model.proofs.TreeLaws.{tree-refuses}
+
+-- every case of `Refusal` says a number and a place
+refusal-says : (x : Refusal) → (n i : ℕ) × (said-refusal x ≡ refusal n i)
+unfolding said-refusal
+refusal-says LongText = (_, _, refl)
+refusal-says (ForbiddenByte i) = (_, _, refl)
+refusal-says (Syntax i) = (_, _, refl)
+refusal-says (UnknownName i) = (_, _, refl)
+refusal-says (OtherName i) = (_, _, refl)
+refusal-says (Depth i) = (_, _, refl)
+refusal-says (ManyNodes i) = (_, _, refl)
+refusal-says (NameList i) = (_, _, refl)
+refusal-says (Sheet i) = (_, _, refl)
+refusal-says (Tree i) = (_, _, refl)
+refusal-says (TextWords i) = (_, _, refl)
+refusal-says (TagCounts g) = (_, _, refl)
+refusal-says (JointLimit k) = (_, _, refl)
+refusal-says (ShortBuffer n) = (_, _, refl)
+refusal-says (TwoStates i) = (_, _, refl)
+refusal-says (LongForm n) = (_, _, refl)
+
+-- a count is said of a check that passes, and a refusal of one that refuses
+count-said : {A : Type 0} (f : A → ℕ) (c : Checked A) {n : ℕ} → count n ≡ answer-of f c → (a : A) × (c ≡ passes a) × (f a ≡ n)
+unfolding answer-of
+count-said f (passes a) h = (a, refl, cc)
+count-said f (refuses m i) h = let z : _≡_ {A = ℕ} 0 1 = cc in absurd (omega arith)
+
+refusal-said : {A : Type 0} (f : A → ℕ) (c : Checked A) {m i : ℕ} → refusal m i ≡ answer-of f c → c ≡ refuses m i
+unfolding answer-of
+refusal-said f (passes a) h = let z : _≡_ {A = ℕ} 0 1 = cc in absurd (omega arith)
+refusal-said f (refuses m i) h = cc
+
+-- the same of a call's answer r, by its case
+pub counted : {A : Type 0} (f : A → ℕ) (c : Checked A) {r : Answer} {n : ℕ} → said r ≡ answer-of f c → r ≡ Count n
+    → (a : A) × (c ≡ passes a) × (f a ≡ n)
+unfolding said
+counted f c h e = count-said f c (sym (ap said e) ∙ h)
+
+pub refused : {A : Type 0} (f : A → ℕ) (c : Checked A) {r : Answer} {x : Refusal} → said r ≡ answer-of f c → r ≡ Error x
+    → (m i : ℕ) × (c ≡ refuses m i) × (said-refusal x ≡ refusal m i)
+unfolding said
+refused f c {x = x} h e =
+    let (m, i, s) = refusal-says x in
+    (m, i, refusal-said f c (sym s ∙ sym (ap said e) ∙ h), s)
+
+-- of a name list
+module _ (list : List ℕ) {r : Answer} where
+  pub names-counted : {n : ℕ} → said r ≡ names-said list → r ≡ Count n → names-of list ≡ passes n
+  unfolding names-said
+  names-counted h e = let (g, p, q) = counted (λ g. g) (names-of list) h e in p ∙ ap passes q
+
+  pub names-refused : {x : Refusal} → said r ≡ names-said list → r ≡ Error x → (m i : ℕ) × (names-of list ≡ refuses m i) × (said-refusal x ≡ refusal m i)
+  unfolding names-said
+  names-refused h e = refused (λ g. g) (names-of list) h e
+
+-- of a tree
+module _ (g : ℕ) (t : List ℕ) {r : Answer} where
+  pub tree-counted : {n : ℕ} → said r ≡ tree-said g t → r ≡ Count n → (e : Element) × (tree-of g t ≡ passes e) × (size e ≡ n)
+  unfolding tree-said
+  tree-counted h e = counted size (tree-of g t) h e
+
+  pub tree-refused : {x : Refusal} → said r ≡ tree-said g t → r ≡ Error x → (i : ℕ) × (tree-of g t ≡ refuses 10 i) × (said-refusal x ≡ refusal 10 i)
+  unfolding tree-said
+  tree-refused h e =
+      let (m, i, q, s) = refused size (tree-of g t) h e in
+      let n = tree-refuses g t q in
+      (i, rw n at q, rw n at s)
