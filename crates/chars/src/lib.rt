@@ -1,0 +1,309 @@
+// The class of a byte, looked up in a constant table.
+ghost use mathlib.Core.Path.{_≡_};
+ghost use Rattle.model.specs.Bytes.{class-number, class-of};
+ghost use Rattle.chars.specs.Table.{table};
+
+pub const WHITE: u8 = 0;
+
+pub const LETTER: u8 = 1;
+
+pub const DIGIT: u8 = 2;
+
+pub const HYPHEN: u8 = 3;
+
+pub const LESS: u8 = 4;
+
+pub const GREATER: u8 = 5;
+
+pub const SLASH: u8 = 6;
+
+pub const OTHER: u8 = 7;
+
+pub const FORBIDDEN: u8 = 8;
+
+pub fn class_of(byte: u8) -> u8
+    ensures { λ r. ⌜ r ≡ class-number (class-of byte) ⌝ }
+{
+    CLASSES[byte as usize]
+}
+
+// The table, for a call that looks up many bytes and lends it on: `CLASSES` is set up anew wherever it is read.
+pub fn classes() -> [u8; 256]
+    ensures { λ r. ⌜ r ≡ table ⌝ }
+{
+    CLASSES
+}
+
+// The class of each byte value.
+pub const CLASSES: [u8; 256] = [
+    // 0 to 8
+    FORBIDDEN,
+    FORBIDDEN,
+    FORBIDDEN,
+    FORBIDDEN,
+    FORBIDDEN,
+    FORBIDDEN,
+    FORBIDDEN,
+    FORBIDDEN,
+    FORBIDDEN,
+    // tab, line feed
+    WHITE,
+    WHITE,
+    // 11, 12
+    FORBIDDEN,
+    FORBIDDEN,
+    WHITE, // carriage return
+    // 14 to 31
+    FORBIDDEN,
+    FORBIDDEN,
+    FORBIDDEN,
+    FORBIDDEN,
+    FORBIDDEN,
+    FORBIDDEN,
+    FORBIDDEN,
+    FORBIDDEN,
+    FORBIDDEN,
+    FORBIDDEN,
+    FORBIDDEN,
+    FORBIDDEN,
+    FORBIDDEN,
+    FORBIDDEN,
+    FORBIDDEN,
+    FORBIDDEN,
+    FORBIDDEN,
+    FORBIDDEN,
+    WHITE, // space
+    // ! to %
+    OTHER,
+    OTHER,
+    OTHER,
+    OTHER,
+    OTHER,
+    FORBIDDEN, // &
+    // ' to ,
+    OTHER,
+    OTHER,
+    OTHER,
+    OTHER,
+    OTHER,
+    OTHER,
+    HYPHEN, // -
+    OTHER, // .
+    SLASH, // /
+    // 0 to 9
+    DIGIT,
+    DIGIT,
+    DIGIT,
+    DIGIT,
+    DIGIT,
+    DIGIT,
+    DIGIT,
+    DIGIT,
+    DIGIT,
+    DIGIT,
+    // : ;
+    OTHER,
+    OTHER,
+    LESS, // <
+    OTHER, // =
+    GREATER, // >
+    // ? @
+    OTHER,
+    OTHER,
+    // A to Z
+    LETTER,
+    LETTER,
+    LETTER,
+    LETTER,
+    LETTER,
+    LETTER,
+    LETTER,
+    LETTER,
+    LETTER,
+    LETTER,
+    LETTER,
+    LETTER,
+    LETTER,
+    LETTER,
+    LETTER,
+    LETTER,
+    LETTER,
+    LETTER,
+    LETTER,
+    LETTER,
+    LETTER,
+    LETTER,
+    LETTER,
+    LETTER,
+    LETTER,
+    LETTER,
+    // [ to `
+    OTHER,
+    OTHER,
+    OTHER,
+    OTHER,
+    OTHER,
+    OTHER,
+    // a to z
+    LETTER,
+    LETTER,
+    LETTER,
+    LETTER,
+    LETTER,
+    LETTER,
+    LETTER,
+    LETTER,
+    LETTER,
+    LETTER,
+    LETTER,
+    LETTER,
+    LETTER,
+    LETTER,
+    LETTER,
+    LETTER,
+    LETTER,
+    LETTER,
+    LETTER,
+    LETTER,
+    LETTER,
+    LETTER,
+    LETTER,
+    LETTER,
+    LETTER,
+    LETTER,
+    // { to ~
+    OTHER,
+    OTHER,
+    OTHER,
+    OTHER,
+    // 127 to 255
+    FORBIDDEN,
+    FORBIDDEN,
+    FORBIDDEN,
+    FORBIDDEN,
+    FORBIDDEN,
+    FORBIDDEN,
+    FORBIDDEN,
+    FORBIDDEN,
+    FORBIDDEN,
+    FORBIDDEN,
+    FORBIDDEN,
+    FORBIDDEN,
+    FORBIDDEN,
+    FORBIDDEN,
+    FORBIDDEN,
+    FORBIDDEN,
+    FORBIDDEN,
+    FORBIDDEN,
+    FORBIDDEN,
+    FORBIDDEN,
+    FORBIDDEN,
+    FORBIDDEN,
+    FORBIDDEN,
+    FORBIDDEN,
+    FORBIDDEN,
+    FORBIDDEN,
+    FORBIDDEN,
+    FORBIDDEN,
+    FORBIDDEN,
+    FORBIDDEN,
+    FORBIDDEN,
+    FORBIDDEN,
+    FORBIDDEN,
+    FORBIDDEN,
+    FORBIDDEN,
+    FORBIDDEN,
+    FORBIDDEN,
+    FORBIDDEN,
+    FORBIDDEN,
+    FORBIDDEN,
+    FORBIDDEN,
+    FORBIDDEN,
+    FORBIDDEN,
+    FORBIDDEN,
+    FORBIDDEN,
+    FORBIDDEN,
+    FORBIDDEN,
+    FORBIDDEN,
+    FORBIDDEN,
+    FORBIDDEN,
+    FORBIDDEN,
+    FORBIDDEN,
+    FORBIDDEN,
+    FORBIDDEN,
+    FORBIDDEN,
+    FORBIDDEN,
+    FORBIDDEN,
+    FORBIDDEN,
+    FORBIDDEN,
+    FORBIDDEN,
+    FORBIDDEN,
+    FORBIDDEN,
+    FORBIDDEN,
+    FORBIDDEN,
+    FORBIDDEN,
+    FORBIDDEN,
+    FORBIDDEN,
+    FORBIDDEN,
+    FORBIDDEN,
+    FORBIDDEN,
+    FORBIDDEN,
+    FORBIDDEN,
+    FORBIDDEN,
+    FORBIDDEN,
+    FORBIDDEN,
+    FORBIDDEN,
+    FORBIDDEN,
+    FORBIDDEN,
+    FORBIDDEN,
+    FORBIDDEN,
+    FORBIDDEN,
+    FORBIDDEN,
+    FORBIDDEN,
+    FORBIDDEN,
+    FORBIDDEN,
+    FORBIDDEN,
+    FORBIDDEN,
+    FORBIDDEN,
+    FORBIDDEN,
+    FORBIDDEN,
+    FORBIDDEN,
+    FORBIDDEN,
+    FORBIDDEN,
+    FORBIDDEN,
+    FORBIDDEN,
+    FORBIDDEN,
+    FORBIDDEN,
+    FORBIDDEN,
+    FORBIDDEN,
+    FORBIDDEN,
+    FORBIDDEN,
+    FORBIDDEN,
+    FORBIDDEN,
+    FORBIDDEN,
+    FORBIDDEN,
+    FORBIDDEN,
+    FORBIDDEN,
+    FORBIDDEN,
+    FORBIDDEN,
+    FORBIDDEN,
+    FORBIDDEN,
+    FORBIDDEN,
+    FORBIDDEN,
+    FORBIDDEN,
+    FORBIDDEN,
+    FORBIDDEN,
+    FORBIDDEN,
+    FORBIDDEN,
+    FORBIDDEN,
+    FORBIDDEN,
+    FORBIDDEN,
+    FORBIDDEN,
+    FORBIDDEN,
+    FORBIDDEN,
+    FORBIDDEN,
+    FORBIDDEN,
+    FORBIDDEN,
+    FORBIDDEN,
+    FORBIDDEN,
+];

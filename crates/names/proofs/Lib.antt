@@ -1,0 +1,5 @@
+mod Scan
+mod Parts
+mod LineLaws
+pub mod IndexLaws
+mod Checks
