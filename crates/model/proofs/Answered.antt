@@ -3,14 +3,18 @@ use mathlib.Core.Path.{_≡_, refl, sym, ap, _∙_}
 use mathlib.Core.List.{List}
 use Prim.Native.Nat.{ℕ}
 use native.Mathlib.Omega.{arith}
+use lib.ListN.{length}
 use Rattle.model.specs.Answers.{count, refusal, said, said-refusal, Checked, passes, refuses, answer-of}
 use Rattle.model.specs.Tree.{Element, size, tree-of}
+use Rattle.model.specs.Sheet.{Sheet, sheet-of}
 use Rattle.model.specs.Names.{names-of}
-use Rattle.model.specs.Calls.{names-said, tree-said}
+use Rattle.model.specs.Calls.{names-said, tree-said, sheet-said}
 use Rattle.model.specs.declared.Answer.{Answer}
 use Rattle.model.specs.declared.Answer.the-variants.{Count, Error}
 use Rattle.model.specs.declared.Refusal.{Refusal}
-use Rattle.model.specs.declared.Refusal.the-variants.{LongText, ForbiddenByte, Syntax, UnknownName, OtherName, Depth, ManyNodes, NameList, Sheet, Tree, TextWords, TagCounts, JointLimit, ShortBuffer, TwoStates, LongForm}
+use Rattle.model.specs.declared.Refusal.the-variants as refusals
+use Rattle.model.specs.declared.Refusal.the-variants.{LongText, ForbiddenByte, Syntax, UnknownName, OtherName, Depth, ManyNodes, NameList, Tree, TextWords, TagCounts, JointLimit, ShortBuffer, TwoStates, LongForm}
+use Rattle.model.proofs.SheetCode.{sheet-refuses}
 use Rattle.model.proofs.TreeLaws.{tree-refuses}
 
 -- every case of `Refusal` says a number and a place
@@ -24,7 +28,7 @@ refusal-says (OtherName i) = (_, _, refl)
 refusal-says (Depth i) = (_, _, refl)
 refusal-says (ManyNodes i) = (_, _, refl)
 refusal-says (NameList i) = (_, _, refl)
-refusal-says (Sheet i) = (_, _, refl)
+refusal-says (refusals.Sheet i) = (_, _, refl)
 refusal-says (Tree i) = (_, _, refl)
 refusal-says (TextWords i) = (_, _, refl)
 refusal-says (TagCounts g) = (_, _, refl)
@@ -78,4 +82,17 @@ module _ (g : ℕ) (t : List ℕ) {r : Answer} where
   tree-refused h e =
       let (m, i, q, s) = refused size (tree-of g t) h e in
       let n = tree-refuses g t q in
+      (i, rw n at q, rw n at s)
+
+-- of a sheet
+module _ (ws : List ℕ) {r : Answer} where
+  pub sheet-counted : {n : ℕ} → said r ≡ sheet-said ws → r ≡ Count n → (n ≡ length ws) × ((s : Sheet) × (sheet-of ws ≡ passes s))
+  unfolding sheet-said
+  sheet-counted h e = let (s, p, q) = counted (λ s. length ws) (sheet-of ws) h e in (sym q, (s, p))
+
+  pub sheet-refused : {x : Refusal} → said r ≡ sheet-said ws → r ≡ Error x → (i : ℕ) × (sheet-of ws ≡ refuses 9 i) × (said-refusal x ≡ refusal 9 i)
+  unfolding sheet-said
+  sheet-refused h e =
+      let (m, i, q, s) = refused (λ s. length ws) (sheet-of ws) h e in
+      let n = sheet-refuses ws q in
       (i, rw n at q, rw n at s)

@@ -1,0 +1,7 @@
+mod WalkLaws
+mod WordTests
+mod Marks
+mod Over
+mod Ends
+mod Files
+mod FileAnswers

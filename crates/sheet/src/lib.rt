@@ -1,0 +1,95 @@
+// The sheet check, and a sheet from the bytes of a file: refusal 9 with its place.
+ghost use mathlib.Core.Path.{_≡_};
+ghost use Prim.Native.Nat.{min};
+ghost use Rattle.model.specs.Answers.{said};
+ghost use Rattle.model.specs.Calls.{sheet-said, from-file-said, from-file-sheet};
+ghost use Rattle.model.specs.Sheet.{sheet};
+ghost use Rattle.sheet.specs.Walks.{after};
+
+mod count;
+mod file;
+mod order;
+mod rule;
+mod walk;
+
+use file::put_words;
+use model::Answer;
+use model::Refusal;
+use rule::rules;
+use walk::Walk;
+use walk::between;
+use walk::set_below;
+use walk::word_at;
+
+const EDITION: u32 = 1;
+
+const MOST_STATES: u32 = 64;
+
+const MOST_TAGS: u32 = 64;
+
+const MOST_RULES: u32 = 1024;
+
+const MOST_WORDS: usize = 16384;
+
+const WORD_BYTES: usize = 4;
+
+// Past a whole sheet, from its first word on.
+fn whole(words: &[u32]) -> Walk
+    ensures { λ r. ⌜ r ≡ after sheet (now (words .entry)) (Walk.At 0) ⌝ }
+{
+    let edition = between(words, Walk::At(0), EDITION, EDITION);
+    let p = word_at(words, edition);
+    let finals = set_below(words, between(words, edition, 1, MOST_STATES), p);
+    let g = word_at(words, finals);
+    let tags = between(words, finals, 1, MOST_TAGS);
+    let n = word_at(words, tags);
+    rules(words, between(words, tags, 0, MOST_RULES), n, p, g)
+}
+
+// A number of words, cut off at the most that a sheet may have.
+fn within(n: usize) -> usize
+    ensures { λ r. ⌜ r ≡ min 16384 n ⌝ }
+{
+    if n < MOST_WORDS { n } else { MOST_WORDS }
+}
+
+// The number of a sheet's words, or 9 with the place of the first bad one.
+pub fn check(sheet: &[u32]) -> Answer
+    ensures { λ r. ⌜ said r ≡ sheet-said (now (sheet .entry)) ⌝ }
+{
+    let n = sheet.len();
+    let limit = within(n);
+    match whole(&sheet[..limit]) {
+        Walk::Bad(i) => Answer::Error(Refusal::Sheet(i)),
+        Walk::At(i) => {
+            if i == n {
+                return Answer::Count(n);
+            }
+            Answer::Error(Refusal::Sheet(i))
+        }
+    }
+}
+
+// A sheet from the bytes of a file, to the front of a buffer: the number of its words, or 9, or 22. A refusal writes nothing.
+pub fn from_file(bytes: &[u8], sheet: &mut [u32]) -> Answer
+    ensures answer { λ r. ⌜ said r ≡ from-file-said (now (bytes .entry)) (now (sheet .entry)) ⌝ }
+    ensures buffer { λ r. ⌜ now (sheet .exit) ≡ from-file-sheet (now (bytes .entry)) (now (sheet .entry)) ⌝ }
+{
+    let n = within(bytes.len() / WORD_BYTES);
+    let mut words = [0u32; MOST_WORDS];
+    put_words(bytes, &mut words, n);
+    match check(&words[..n]) {
+        Answer::Error(refusal) => Answer::Error(refusal),
+        Answer::Count(_) => {
+            // Bytes after a whole sheet: 1 to 3 over, a word after the last rule, or one beyond the most words.
+            if n * WORD_BYTES != bytes.len() {
+                return Answer::Error(Refusal::Sheet(n));
+            }
+            if sheet.len() < n {
+                return Answer::Error(Refusal::ShortBuffer(n));
+            }
+            put_words(bytes, sheet, n);
+            Answer::Count(n)
+        }
+    }
+}
