@@ -1,0 +1,315 @@
+//! Runs an implementation on an input, and two beside each other.
+
+use crate::answer::{Answer, Implementation};
+use crate::generate::{input, sweeps, Call, Input};
+use crate::reference::Reference;
+use std::collections::BTreeMap;
+use std::fmt::{self, Write};
+use std::ops::Range;
+
+/// So many guard words or bytes stand before and after a lent buffer.
+const GUARD: usize = 8;
+const GUARD_WORD: u32 = 0xdead_beef;
+const GUARD_BYTE: u8 = 0xa7;
+
+/// The lent buffer after a call, with the guards around it.
+#[derive(Clone, Debug, PartialEq, Eq)]
+pub enum Buffer {
+    None,
+    Words(Vec<u32>),
+    Bytes(Vec<u8>),
+}
+
+#[derive(Clone, Debug, PartialEq, Eq)]
+pub struct Outcome {
+    pub answer: Answer,
+    pub buffer: Buffer,
+}
+
+/// A copy of a buffer with guards around it.
+fn guarded<T: Copy>(buffer: &[T], guard: T) -> Vec<T> {
+    let mut whole = vec![guard; GUARD];
+    whole.extend(buffer);
+    whole.extend([guard; GUARD]);
+    whole
+}
+
+fn lend_words(buffer: &[u32], call: impl FnOnce(&mut [u32]) -> Answer) -> Outcome {
+    let mut whole = guarded(buffer, GUARD_WORD);
+    let answer = call(&mut whole[GUARD..GUARD + buffer.len()]);
+    Outcome {
+        answer,
+        buffer: Buffer::Words(whole),
+    }
+}
+
+fn lend_bytes(buffer: &[u8], call: impl FnOnce(&mut [u8]) -> Answer) -> Outcome {
+    let mut whole = guarded(buffer, GUARD_BYTE);
+    let answer = call(&mut whole[GUARD..GUARD + buffer.len()]);
+    Outcome {
+        answer,
+        buffer: Buffer::Bytes(whole),
+    }
+}
+
+fn without_buffer(answer: Answer) -> Outcome {
+    Outcome {
+        answer,
+        buffer: Buffer::None,
+    }
+}
+
+/// Runs one call on a copy of its buffer.
+pub fn run(calls: &dyn Implementation, input: &Input) -> Outcome {
+    match input {
+        Input::CheckNames { list } => without_buffer(calls.check_names(list)),
+        Input::Read { list, text, tree } => lend_words(tree, |tree| calls.read(list, text, tree)),
+        Input::CheckTree { tags, tree } => without_buffer(calls.check_tree(*tags, tree)),
+        Input::Write {
+            list,
+            text,
+            tree,
+            out,
+        } => lend_bytes(out, |out| calls.write(list, text, tree, out)),
+        Input::CheckSheet { sheet } => without_buffer(calls.check_sheet(sheet)),
+        Input::SheetFromFile { file, words } => {
+            lend_words(words, |words| calls.sheet_from_file(file, words))
+        }
+        Input::Judge {
+            sheet,
+            tree,
+            states,
+        } => lend_words(states, |states| calls.judge(sheet, tree, states)),
+        Input::Swap { sheet, out } => lend_words(out, |out| calls.swap(sheet, out)),
+        Input::Join { first, second, out } => lend_words(out, |out| calls.join(first, second, out)),
+        Input::Formcheck { list, file, text } => without_buffer(calls.formcheck(list, file, text)),
+    }
+}
+
+/// Answers by their kind, and the refusals also by what was broken.
+#[derive(Default)]
+pub struct Histogram {
+    counts: BTreeMap<(u32, &'static str), BTreeMap<&'static str, usize>>,
+}
+
+impl Histogram {
+    fn add(&mut self, answer: Answer, why: &'static str) {
+        let key = match answer {
+            Answer::Count(_) => (0, "count"),
+            Answer::Accepted(..) => (0, "accepted"),
+            Answer::Refused(..) => (0, "refused"),
+            Answer::Stuck(..) => (0, "stuck"),
+            Answer::Refusal(number, _) => (number, "refusal"),
+        };
+        *self.counts.entry(key).or_default().entry(why).or_default() += 1;
+    }
+
+    /// The number of inputs.
+    pub fn inputs(&self) -> usize {
+        self.counts.values().flat_map(BTreeMap::values).sum()
+    }
+
+    pub fn lines(&self) -> String {
+        let mut lines = String::new();
+        for ((number, name), reasons) in &self.counts {
+            let total: usize = reasons.values().sum();
+            let label = match number {
+                0 => name.to_string(),
+                _ => format!("{name} {number}"),
+            };
+            write!(lines, "  {label:<12}{total:>9}").expect("a string grows");
+            if reasons.keys().any(|why| !why.is_empty()) {
+                let parts: Vec<String> = reasons
+                    .iter()
+                    .map(|(why, count)| format!("{why} {count}"))
+                    .collect();
+                write!(lines, "   {}", parts.join("; ")).expect("a string grows");
+            }
+            lines.push('\n');
+        }
+        lines
+    }
+}
+
+/// Where an input comes from.
+#[derive(Clone, Copy)]
+pub enum Source {
+    /// Drawn with a seed.
+    Seed(u64),
+    /// Of this number in the call's sweep.
+    Sweep(usize),
+}
+
+impl fmt::Display for Source {
+    fn fmt(&self, out: &mut fmt::Formatter) -> fmt::Result {
+        match self {
+            Source::Seed(seed) => write!(out, "seed {seed}"),
+            Source::Sweep(index) => write!(out, "sweep {index}"),
+        }
+    }
+}
+
+/// The inputs of a call for some seeds.
+pub fn drawn(call: Call, seeds: Range<u64>) -> impl Iterator<Item = (Source, Input)> {
+    seeds.map(move |seed| (Source::Seed(seed), input(call, seed)))
+}
+
+/// The inputs of a call's sweep.
+pub fn swept(call: Call) -> impl Iterator<Item = (Source, Input)> {
+    let inputs = sweeps::sweep(call).enumerate();
+    inputs.map(|(index, input)| (Source::Sweep(index), input))
+}
+
+/// Runs a call's inputs on the reference and, if there is one, a second implementation; ends with a
+/// report at the first difference.
+pub fn compare(
+    reference: &Reference,
+    second: Option<&dyn Implementation>,
+    call: Call,
+    inputs: impl Iterator<Item = (Source, Input)>,
+    trace: bool,
+) -> Result<Histogram, String> {
+    let mut histogram = Histogram::default();
+    for (source, input) in inputs {
+        if trace {
+            eprintln!("{}, {source}", call.name());
+        }
+        let expected = run(reference, &input);
+        histogram.add(expected.answer, reference.why());
+        if let Err(rule) = check_buffer(&input, &expected) {
+            let what = format!("the reference breaks: {rule}");
+            return Err(report(&what, call, source, &input));
+        }
+        if let Some(second) = second {
+            let got = run(second, &input);
+            if got != expected {
+                let what = difference(&expected, &got);
+                return Err(report(&what, call, source, &input));
+            }
+        }
+    }
+    Ok(histogram)
+}
+
+/// What differs between two outcomes.
+fn difference(expected: &Outcome, got: &Outcome) -> String {
+    let mut text = format!("answers: {:?} and {:?}", expected.answer, got.answer);
+    let place = match (&expected.buffer, &got.buffer) {
+        (Buffer::Words(a), Buffer::Words(b)) => first_difference(a, b),
+        (Buffer::Bytes(a), Buffer::Bytes(b)) => first_difference(a, b),
+        _ => None,
+    };
+    if let Some((index, a, b)) = place {
+        let place = index as i64 - GUARD as i64;
+        write!(text, "\nbuffers differ first at {place}: {a} and {b}").expect("a string grows");
+    }
+    text
+}
+
+fn first_difference<T: Copy + Into<u32> + PartialEq>(
+    a: &[T],
+    b: &[T],
+) -> Option<(usize, u32, u32)> {
+    let index = (0..a.len()).find(|&index| a[index] != b[index])?;
+    Some((index, a[index].into(), b[index].into()))
+}
+
+/// A report with the call, the source and the whole input.
+pub fn report(what: &str, call: Call, source: Source, input: &Input) -> String {
+    format!("{}, {source}: {what}\n{}", call.name(), show(input))
+}
+
+/// The whole input, bytes as escaped text and words as numbers.
+pub fn show(input: &Input) -> String {
+    let bytes = |name: &str, bytes: &[u8]| {
+        format!(
+            "{name} ({} bytes): \"{}\"\n",
+            bytes.len(),
+            bytes.escape_ascii()
+        )
+    };
+    let words = |name: &str, words: &[u32]| format!("{name} ({} words): {words:?}\n", words.len());
+    match input {
+        Input::CheckNames { list } => bytes("list", list),
+        Input::Read { list, text, tree } => {
+            bytes("list", list) + &bytes("text", text) + &words("buffer before", tree)
+        }
+        Input::CheckTree { tags, tree } => format!("tags: {tags}\n") + &words("tree", tree),
+        Input::Write {
+            list,
+            text,
+            tree,
+            out,
+        } => {
+            bytes("list", list)
+                + &bytes("text", text)
+                + &words("tree", tree)
+                + &bytes("buffer before", out)
+        }
+        Input::CheckSheet { sheet } => words("sheet", sheet),
+        Input::SheetFromFile {
+            file,
+            words: buffer,
+        } => bytes("file", file) + &words("buffer before", buffer),
+        Input::Judge {
+            sheet,
+            tree,
+            states,
+        } => words("sheet", sheet) + &words("tree", tree) + &words("buffer before", states),
+        Input::Swap { sheet, out } => words("sheet", sheet) + &words("buffer before", out),
+        Input::Join { first, second, out } => {
+            words("first", first) + &words("second", second) + &words("buffer before", out)
+        }
+        Input::Formcheck { list, file, text } => {
+            bytes("list", list) + &bytes("file", file) + &bytes("text", text)
+        }
+    }
+}
+
+/// "A refusal writes nothing, but 23 zeroes the first n state words. Words past an answer keep
+/// their contents."
+fn check_buffer(input: &Input, outcome: &Outcome) -> Result<(), &'static str> {
+    match (input, &outcome.buffer) {
+        (Input::Write { out, .. }, Buffer::Bytes(after)) => {
+            kept(&guarded(out, GUARD_BYTE), after, written(input, outcome))
+        }
+        (Input::Read { tree: before, .. }, Buffer::Words(after))
+        | (Input::SheetFromFile { words: before, .. }, Buffer::Words(after))
+        | (Input::Judge { states: before, .. }, Buffer::Words(after))
+        | (Input::Swap { out: before, .. }, Buffer::Words(after))
+        | (Input::Join { out: before, .. }, Buffer::Words(after)) => {
+            let written = written(input, outcome);
+            kept(&guarded(before, GUARD_WORD), after, written)?;
+            let front = &after[GUARD..GUARD + written];
+            match outcome.answer {
+                Answer::Refusal(23, _) if front.iter().any(|&word| word != 0) => {
+                    Err("23 zeroes the first n state words")
+                }
+                _ => Ok(()),
+            }
+        }
+        _ => Ok(()),
+    }
+}
+
+/// How many words or bytes of the buffer a call may have written.
+fn written(input: &Input, outcome: &Outcome) -> usize {
+    match (input, outcome.answer) {
+        (Input::Judge { tree, .. }, Answer::Refusal(23, _)) => tree.len() / 4,
+        (_, Answer::Refusal(..)) => 0,
+        (Input::Judge { tree, .. }, _) => tree.len() / 4,
+        (Input::Read { .. }, Answer::Count(nodes)) => 4 * nodes as usize,
+        (_, Answer::Count(count)) => count as usize,
+        _ => 0,
+    }
+}
+
+/// Everything but the written part of the buffer is as it was.
+fn kept<T: PartialEq>(before: &[T], after: &[T], written: usize) -> Result<(), &'static str> {
+    let past = GUARD + written;
+    if before[..GUARD] == after[..GUARD] && before[past..] == after[past..] {
+        Ok(())
+    } else {
+        Err("words past an answer keep their contents")
+    }
+}
