@@ -1,0 +1,5 @@
+mod BitLaws
+mod MemberLaws
+pub mod SetLaws
+pub mod GistLaws
+mod SignedLaws
