@@ -1,0 +1,7 @@
+mod RunLaws
+mod Steps
+mod Tokens
+mod PackLaws
+mod ChainLaws
+mod Readings
+mod Answers

@@ -1,0 +1,25 @@
+-- `reader::scan_form` meets its contract.
+use mathlib.Core.Path.{refl}
+use native.Mathlib.Omega.{arith}
+use borrow.Author.Needs.{needs}
+use Rattle.names.proofs.IndexLaws.{indexed}
+use Rattle.reader.specs.Chains.{Listing}
+use Rattle.reader.proofs.scan_form.Statement.{statement}
+use Rattle.reader.proofs.scan_form.Tie as tie
+
+listing : (c : tie.After-index) → Listing (c .before .before .before .before .before .args .list .now) (c .index .last .1 .0)
+listing c = record { checked = c .before .before .before .before .before .pre .0; indexed = indexed _ _ _ (omega arith) (c .index .ensures .1) }
+
+pub scan-form-spec : {M : Type 1} → statement M
+scan-form-spec =
+    tie.close
+    (tie.spec
+    (λ c κs. search needs)
+    (λ c κs. search needs)
+    (λ c κs. (listing (c .before .before .before), (c .before .before .before .index .ensures .0, (refl, refl))))
+    (λ c κs. (c .before .before .before .before .before .before .before .before .before .before .before .classes .ensures, (listing (c .before .before .before .before .before .before .before .before .before), (c .before .before .before .before .before .chain .ensures, c .before .before .before .before .before .before .before .before .before .before .before .before .before .before .pre .1))))
+    (λ c. search needs)
+    (λ c. search needs)
+    (λ c κs. (c .before .before .before .before .before .before .before .before .before .before .before .before .before .before .before .before .before .before .before .before .classes .ensures, (listing (c .before .before .before .before .before .before .before .before .before .before .before .before .before .before .before .before .before .before), (c .before .before .before .before .before .before .before .before .before .before .before .before .before .before .chain .ensures, (rw (c .before .before .before .before .before .before .first2 .given .1) at (c .before .before .before .before .before .before .before .before .root .ensures)) .1))))
+    (λ c. rw (c .before .first .given .1) at (c .before .before .before .root .ensures))
+    (λ c. c .content .ensures))

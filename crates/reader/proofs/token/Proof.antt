@@ -1,0 +1,30 @@
+-- `reader::token` meets its contract.
+use native.Mathlib.Omega.{arith}
+use borrow.Author.Needs.{needs}
+use Rattle.reader.proofs.Readings.{start-tag-there, end-tag-there, tag-stuck, content-stuck, text-there, goes-from}
+use Rattle.reader.proofs.token.Statement.{statement}
+use Rattle.reader.proofs.token.Tie as tie
+
+pub token-spec : {M : Type 1} → statement M
+token-spec =
+    tie.close
+    (tie.spec
+    (λ c κs. (c .before .before .pre .0, c .before .before .pre .1 .1 .1 .1 .within))
+    (λ c κs. search needs)
+    (λ c. omega (arith, c .before .before .skip .ensures .1))
+    (λ c κs. search needs)
+    (λ c κs. search needs)
+    (λ c κs. (c .before .before .before .before .before .before .before .before .before .pre .0, (c .before .before .before .before .before .before .before .before .before .pre .1 .0, (c .before .before .before .before .before .before .before .before .before .pre .1 .1 .0, rw (c .before .moved .ensures) (start-tag-there (c .before .before .before .before .before .before .before .before .before .pre .1 .1 .1 .1) (c .before .before .before .before .before .before .before .before .before .pre .1 .1 .1 .0) _ _ (c .before .before .before .before .before .before .skip .ensures .0) (c .before .before .before .before .before .class-at .ensures) (c .before .before .before .before .if1 .taken) _ (c .before .before .before .class-at2 .ensures) (c .before .before .if2 .taken))))))
+    (λ c. goes-from _ _ _ (c .start-tag .result) (rw (c .before .before .moved .ensures) (omega (arith, c .before .before .before .before .before .before .before .skip .ensures .1))) (c .start-tag .ensures))
+    (λ c. omega (arith, c .before .before .before .before .before .skip .ensures .1))
+    (λ c κs. search needs)
+    (λ c κs. (c .before .before .before .before .before .before .before .before .before .before .pre .0, (c .before .before .before .before .before .before .before .before .before .before .pre .1 .0, rw (c .before .moved2 .ensures) (c .before .before .before .before .before .before .before .before .before .before .pre .1 .1 .1 .0, end-tag-there (c .before .before .before .before .before .before .before .before .before .before .pre .1 .1 .1 .1) (c .before .before .before .before .before .before .before .before .before .before .pre .1 .1 .1 .0) _ _ (c .before .before .before .before .before .before .before .skip .ensures .0) (c .before .before .before .before .before .before .class-at .ensures) (c .before .before .before .before .before .if1 .taken) _ (c .before .before .before .before .class-at2 .ensures) (c .before .before .if3 .taken)))))
+    (λ c. goes-from _ _ _ (c .end-tag .result) (rw (c .before .before .moved2 .ensures) (omega (arith, c .before .before .before .before .before .before .before .before .skip .ensures .1))) (c .end-tag .ensures))
+    (λ c. omega (arith, c .before .before .before .before .before .skip .ensures .1))
+    (λ c κs. search needs)
+    (λ c. rw (c .refusal-at .ensures) (tag-stuck (c .before .before .before .before .before .before .before .before .before .pre .1 .1 .1 .1) (c .before .before .before .before .before .before .before .before .before .pre .1 .1 .1 .0) _ _ (c .before .before .before .before .before .before .skip .ensures .0) (c .before .before .before .before .before .class-at .ensures) (c .before .before .before .before .if1 .taken) _ (c .before .before .before .class-at2 .ensures) (c .before .before .if2 .left) (c .before .if3 .left)))
+    (λ c κs. search needs)
+    (λ c. rw (c .refusal-at2 .ensures) (content-stuck (c .before .before .before .before .before .before .before .pre .1 .1 .1 .1) (c .before .before .before .before .before .before .before .pre .1 .1 .1 .0) _ _ (c .before .before .before .before .skip .ensures .0) (c .before .before .before .class-at .ensures) (c .before .if4 .taken)))
+    (λ c κs. search needs)
+    (λ c κs. (c .before .before .before .before .before .before .before .before .pre .0, rw (c .before .moved3 .ensures) ((omega (arith, c .before .before .before .before .before .skip .ensures .1), c .before .before .before .before .before .before .before .before .pre .1 .1 .1 .1 .short), (c .before .before .before .before .before .before .before .before .pre .1 .1 .1 .0, text-there (c .before .before .before .before .before .before .before .before .pre .1 .1 .1 .1) (c .before .before .before .before .before .before .before .before .pre .1 .1 .1 .0) _ _ (c .before .before .before .before .before .skip .ensures .0) (c .before .before .before .before .class-at .ensures) (c .before .before .before .if1 .left) (c .before .before .if4 .left) .1))))
+    (λ c. goes-from _ _ _ (c .text-node .result) (rw (c .before .before .moved3 .ensures) (omega (arith, c .before .before .before .before .before .before .skip .ensures .1))) (c .text-node .ensures _ (rw (c .before .before .moved3 .ensures) (text-there (c .before .before .before .before .before .before .before .before .before .pre .1 .1 .1 .1) (c .before .before .before .before .before .before .before .before .before .pre .1 .1 .1 .0) _ _ (c .before .before .before .before .before .before .skip .ensures .0) (c .before .before .before .before .before .class-at .ensures) (c .before .before .before .before .if1 .left) (c .before .before .before .if4 .left) .0)))))

@@ -1,0 +1,92 @@
+-- How far a text is read, against the one pass of the model.
+use mathlib.Core.Path.{_≡_}
+use mathlib.Core.Logic.{_≢_, _⊎_}
+use mathlib.Core.Bool.{cond}
+use mathlib.Core.List.{List}
+use Prim.Native.Nat.{ℕ, _+_, _≤_, _<_}
+use lib.Dec.{eqb}
+use lib.ListN.{length, take, drop}
+use Rattle.model.specs.Answers.{said-refusal, refusal, Checked, passes, refuses}
+use Rattle.model.specs.Tree.{Document, sizeD, wordsD}
+use Rattle.model.specs.Text.{Place, before, blank, Open, outside, form-of}
+use Rattle.model.specs.declared.Refusal.{Refusal}
+use Rattle.model.specs.declared.Refusal.the-variants.{ForbiddenByte, Syntax}
+use Rattle.model.specs.declared.Answer.{Answer}
+use Rattle.model.specs.declared.Answer.the-variants.{Count, Error}
+use Rattle.model.proofs.Scan.{scan}
+use Rattle.model.proofs.RoundScan.{state}
+use Rattle.names.specs.Lines.{line-count}
+use Rattle.reader.specs.Packed.{all-unpacked, Holds}
+use Rattle.reader.specs.Runs.{first-class}
+use Rattle.reader.specs.declared.Scan.{Scan}
+use Rattle.reader.specs.declared.Step.{Step}
+use Rattle.reader.specs.declared.Step.the-variants.{On, Refused}
+
+-- the scan at another offset
+abbrev pub at-offset : Scan → ℕ → Scan
+at-offset s at = record { at = at; top = s .top; depth = s .depth; nodes = s .nodes }
+
+-- No byte before `s .at` is refused; the text goes on from there at a place, which may depend on the open elements.
+-- The words hold the nodes that are read.
+pub record Reads (list text words : List ℕ) (place : List Open → Place) (s : Scan) : Type 0 where
+  pub content : Document
+  pub opened : List Open
+  pub goes : form-of list text ≡ scan list (state (place opened) content opened (s .nodes)) (s .at) (drop (s .at) text)
+  pub holds : Holds words (line-count list) opened (s .top) (s .nodes) content
+  pub deep : length opened ≡ s .depth
+  pub above : s .top ≤ s .nodes
+  pub few : s .nodes ≤ 4096
+  pub within : s .at ≤ length text
+  pub short : length text ≤ 65535
+  pub room : length words ≡ 4096
+
+abbrev pub ReadsAt : (list text words : List ℕ) → Place → Scan → Type 0
+ReadsAt list text words place s = Reads list text words (λ os. place) s
+
+-- at the < of a start tag
+pub record AtStartTag (list text words : List ℕ) (s : Scan) : Type 0 where
+  pub place : Place
+  pub leads : (place ≡ before) ⊎ (place ≡ blank)
+  pub reads : ReadsAt list text words place s
+  pub opening : first-class (drop (s .at) text) ≡ 4
+  pub letter-next : first-class (drop (s .at + 1) text) ≡ 1
+
+-- the class of a byte that begins a text in content: none of white, <, > and forbidden
+pub record Solid (class : ℕ) : Type 0 where
+  pub no-white : class ≢ 0
+  pub no-less : class ≢ 4
+  pub no-greater : class ≢ 5
+  pub allowed : class < 8
+
+-- a refusal that says what the text is refused with
+pub record Refuses (form : Checked Document) (r : Refusal) : Type 0 where
+  pub number : ℕ
+  pub place : ℕ
+  pub is : form ≡ refuses number place
+  pub says : said-refusal r ≡ refusal number place
+
+-- the refusal of a byte, by its class, or the end, that the form can't go on with
+abbrev pub stop-refusal : (class at : ℕ) → Refusal
+stop-refusal class at = cond (eqb class 8) (ForbiddenByte at) (Syntax at)
+
+-- After a token that begins at offset i or behind it: in content, or after the root, and further on; or refused.
+abbrev pub Goes : (list text words : List ℕ) (i : ℕ) → Step → Type 0
+Goes list text words i (On s) = (i < s .at) × Reads list text words outside s
+Goes list text words i (Refused r) = Refuses (form-of list text) r
+
+-- where the text is read up to a place, by whatever list, a token goes so
+abbrev pub GoesFrom : Place → (text words then : List ℕ) → Scan → Step → Type 0
+GoesFrom place text words then s step = (list : List ℕ) → ReadsAt list text words place s → Goes list text then (s .at) step
+
+-- the whole text is read: the words hold its n nodes
+pub record Whole (list text words : List ℕ) (n : ℕ) : Type 0 where
+  pub form : Document
+  pub is : form-of list text ≡ passes form
+  pub count : sizeD form ≡ n
+  pub few : n ≤ 4096
+  pub encoded : all-unpacked (take n words) ≡ wordsD form
+  pub room : length words ≡ 4096
+
+abbrev pub Scanned : (list text words : List ℕ) → Answer → Type 0
+Scanned list text words (Count n) = Whole list text words n
+Scanned list text words (Error r) = Refuses (form-of list text) r

@@ -1,0 +1,626 @@
+// Reads a form's text by a name list into the words of a tree.
+//
+// A text is read in one pass, token by token, and each node becomes one word of four fields. They are unpacked into the lent tree
+// only when nothing is refused and there is room. The word of an open element holds its parent's node where its size is to stand,
+// so the open elements are a chain, and need no stack.
+use model::Answer;
+use model::Refusal;
+ghost use mathlib.Core.List.{_++_};
+ghost use mathlib.Core.Path.{_≡_};
+ghost use Prim.Native.Nat.{_+_, _-_, _*_, _≤_, _<_};
+ghost use lib.ListN.{length, take, drop, replicate};
+ghost use lib.Seq.{sets};
+ghost use Rattle.model.specs.Answers.{said, passes};
+ghost use Rattle.model.specs.Bytes.{class-number, class-of, kind-of-text};
+ghost use Rattle.model.specs.Calls.{read-said, read-tree};
+ghost use Rattle.model.specs.Lists.{every};
+ghost use Rattle.model.specs.Names.{name-of, names-of, tag-of};
+ghost use Rattle.model.specs.Text.{blank, start-gap, end-open, outside};
+ghost use Rattle.model.specs.Written.{text-byte};
+ghost use Rattle.chars.specs.Table.{table};
+ghost use Rattle.names.specs.Lines.{line-count};
+ghost use Rattle.reader.specs.Chains.{bucket, Listing, Chained};
+ghost use Rattle.reader.specs.Packed.{packed, unpacked, all-unpacked, closed-words, closed-scan};
+ghost use Rattle.reader.specs.Reading.{Reads, ReadsAt, AtStartTag, Solid, Goes, GoesFrom, Scanned, at-offset, stop-refusal};
+ghost use Rattle.reader.specs.Runs.{run, class-within, first-class, trim};
+
+// A text has at most so many bytes.
+const MOST_BYTES: usize = 65535;
+
+// A form has at most so many nodes.
+const MOST_NODES: usize = 4096;
+
+// Its elements lie at most so deep.
+const MOST_DEPTH: usize = 32;
+
+// The symbol of a text is this and its kind.
+const TEXT_SYMBOL: u64 = 64;
+
+// The class of the end of a text, beside those of bytes.
+const END: u8 = 9;
+
+// So many bytes of a text are looked at in one go.
+const BLOCK: usize = 16;
+
+// Each field of a node's word has so many values.
+const FIELD: u64 = 65536;
+
+// The tags stand in so many chains, by their names.
+const BUCKETS: usize = 64;
+
+// The class of each byte value.
+type Classes = [u8; 256];
+
+// An entry for each line of a name list, and one more.
+type PerName = [usize; names::MOST_NAMES + 1];
+
+// An entry for each chain.
+type PerBucket = [usize; BUCKETS];
+
+// A word for each node.
+type Words = [u64; MOST_NODES];
+
+// How far a text is read: the next byte, the node of the innermost open element, how many elements are open, and how many nodes
+// there are.
+struct Scan {
+    at: usize,
+    top: usize,
+    depth: usize,
+    nodes: usize,
+}
+
+// Behind a token the text goes on, or it is refused.
+enum Step {
+    On(Scan),
+    Refused(Refusal),
+}
+
+// The number of nodes, whose words go to the front of the tree; or the first of the refusals 8, 1, 2 to 7 and 22, which leaves the
+// tree as it was.
+pub fn read(list: &[u8], text: &[u8], tree: &mut [u32]) -> Answer
+    ensures answer { λ r. ⌜ said r ≡ read-said (now (list .entry)) (now (text .entry)) (now (tree .entry)) ⌝ }
+    ensures buffer { λ r. ⌜ now (tree .exit) ≡ read-tree (now (list .entry)) (now (text .entry)) (now (tree .entry)) ⌝ }
+{
+    let checked = names::check(list);
+    match checked {
+        Answer::Error(refusal) => Answer::Error(refusal),
+        Answer::Count(_) => read_by(list, text, tree),
+    }
+}
+
+// The same, by a list that passes its check.
+fn read_by(list: &[u8], text: &[u8], tree: &mut [u32]) -> Answer
+    requires { ⌜ names-of (now list) ≡ passes (line-count (now list)) ⌝ }
+    ensures answer { λ r. ⌜ said r ≡ read-said (now (list .entry)) (now (text .entry)) (now (tree .entry)) ⌝ }
+    ensures buffer { λ r. ⌜ now (tree .exit) ≡ read-tree (now (list .entry)) (now (text .entry)) (now (tree .entry)) ⌝ }
+{
+    if MOST_BYTES < text.len() {
+        return Answer::Error(Refusal::LongText);
+    }
+    let mut words = [0u64; MOST_NODES];
+    let scanned = scan_form(list, text, &mut words);
+    match scanned {
+        Answer::Error(refusal) => Answer::Error(refusal),
+        Answer::Count(nodes) => {
+            if tree.len() < 4 * nodes {
+                return Answer::Error(Refusal::ShortBuffer(4 * nodes));
+            }
+            unpack(&words, nodes, tree);
+            Answer::Count(nodes)
+        }
+    }
+}
+
+// The number of nodes, whose words go to `words`; or the first of the refusals 2 to 7.
+fn scan_form(list: &[u8], text: &[u8], words: &mut Words) -> Answer
+    requires { ⌜ names-of (now list) ≡ passes (line-count (now list)) ⌝ }
+    requires { ⌜ (length (now text) ≤ 65535) × (length (now words) ≡ 4096) ⌝ }
+    ensures { λ r. ⌜ Scanned (now (list .entry)) (now (text .entry)) (now (words .exit)) r ⌝ }
+{
+    let classes = chars::classes();
+    let mut lines = [0usize; names::MOST_NAMES + 1];
+    let count = names::index(list, &mut lines);
+    let mut heads = [0usize; BUCKETS];
+    let mut nexts = [0usize; names::MOST_NAMES + 1];
+    chain(list, &lines, count, &mut heads, &mut nexts);
+    let first = root(&classes, list, &lines, &heads, &nexts, text, words);
+    match first {
+        Step::Refused(refusal) => Answer::Error(refusal),
+        Step::On(s) => content(&classes, list, &lines, &heads, &nexts, text, s, words),
+    }
+}
+
+// White, and the root's start tag.
+fn root(
+    classes: &Classes,
+    list: &[u8],
+    lines: &PerName,
+    heads: &PerBucket,
+    nexts: &PerName,
+    text: &[u8],
+    words: &mut Words,
+) -> Step
+    requires { ⌜ now classes ≡ table ⌝ }
+    requires { ⌜ Listing (now list) (now lines) ⌝ }
+    requires { ⌜ Chained (now list) (now heads) (now nexts) 0 ⌝ }
+    requires { ⌜ (length (now text) ≤ 65535) × (length (now words) ≡ 4096) ⌝ }
+    ensures { λ r. ⌜ Goes (now (list .entry)) (now (text .entry)) (now (words .exit)) 0 r ⌝ }
+{
+    let at = skip(classes, text, 0, chars::WHITE, chars::WHITE);
+    let class = class_at(classes, text, at);
+    if class != chars::LESS {
+        return Step::Refused(refusal_at(class, at));
+    }
+    let next = class_at(classes, text, at + 1);
+    if next != chars::LETTER {
+        return Step::Refused(refusal_at(next, at + 1));
+    }
+    let s = Scan {
+        at,
+        top: 0,
+        depth: 0,
+        nodes: 0,
+    };
+    start_tag(classes, list, lines, heads, nexts, text, s, words)
+}
+
+// The root's content and end tag, and white up to the end of the text.
+fn content(
+    classes: &Classes,
+    list: &[u8],
+    lines: &PerName,
+    heads: &PerBucket,
+    nexts: &PerName,
+    text: &[u8],
+    start: Scan,
+    words: &mut Words,
+) -> Answer
+    requires { ⌜ now classes ≡ table ⌝ }
+    requires { ⌜ Listing (now list) (now lines) ⌝ }
+    requires { ⌜ Chained (now list) (now heads) (now nexts) 0 ⌝ }
+    requires { ⌜ Reads (now list) (now text) (now words) outside start ⌝ }
+    ensures { λ r. ⌜ Scanned (now (list .entry)) (now (text .entry)) (now (words .exit)) r ⌝ }
+{
+    let mut s = start;
+    while 0 < s.depth {
+        let step = token(classes, list, lines, heads, nexts, text, s, words);
+        match step {
+            Step::Refused(refusal) => return Answer::Error(refusal),
+            Step::On(next) => s = next,
+        }
+    }
+    let at = skip(classes, text, s.at, chars::WHITE, chars::WHITE);
+    if at < text.len() {
+        return Answer::Error(refusal_at(class_at(classes, text, at), at));
+    }
+    Answer::Count(s.nodes)
+}
+
+// ---- tokens
+
+// One token of content: white and a tag, or white and a text.
+fn token(
+    classes: &Classes,
+    list: &[u8],
+    lines: &PerName,
+    heads: &PerBucket,
+    nexts: &PerName,
+    text: &[u8],
+    s: Scan,
+    words: &mut Words,
+) -> Step
+    requires { ⌜ now classes ≡ table ⌝ }
+    requires { ⌜ Listing (now list) (now lines) ⌝ }
+    requires { ⌜ Chained (now list) (now heads) (now nexts) 0 ⌝ }
+    requires { ⌜ (1 ≤ s .depth) × Reads (now list) (now text) (now words) outside s ⌝ }
+    ensures { λ r. ⌜ Goes (now (list .entry)) (now (text .entry)) (now (words .exit)) (s .at) r ⌝ }
+{
+    let at = skip(classes, text, s.at, chars::WHITE, chars::WHITE);
+    let class = class_at(classes, text, at);
+    if class == chars::LESS {
+        let next = class_at(classes, text, at + 1);
+        if next == chars::LETTER {
+            return start_tag(
+                classes,
+                list,
+                lines,
+                heads,
+                nexts,
+                text,
+                moved(s, at),
+                words,
+            );
+        }
+        if next == chars::SLASH {
+            return end_tag(classes, list, lines, text, moved(s, at + 2), words);
+        }
+        return Step::Refused(refusal_at(next, at + 1));
+    }
+    if (class == chars::GREATER) | (chars::FORBIDDEN <= class) {
+        return Step::Refused(refusal_at(class, at));
+    }
+    text_node(classes, text, moved(s, at), words)
+}
+
+// A start tag, from its < on.
+fn start_tag(
+    classes: &Classes,
+    list: &[u8],
+    lines: &PerName,
+    heads: &PerBucket,
+    nexts: &PerName,
+    text: &[u8],
+    s: Scan,
+    words: &mut Words,
+) -> Step
+    requires { ⌜ now classes ≡ table ⌝ }
+    requires { ⌜ Listing (now list) (now lines) ⌝ }
+    requires { ⌜ Chained (now list) (now heads) (now nexts) 0 ⌝ }
+    requires { ⌜ AtStartTag (now list) (now text) (now words) s ⌝ }
+    ensures { λ r. ⌜ Goes (now (list .entry)) (now (text .entry)) (now (words .exit)) (s .at) r ⌝ }
+{
+    let at = s.at;
+    if MOST_DEPTH <= s.depth {
+        return Step::Refused(Refusal::Depth(at));
+    }
+    if MOST_NODES <= s.nodes {
+        return Step::Refused(Refusal::ManyNodes(at));
+    }
+    let from = at + 1;
+    let end = skip(classes, text, from, chars::LETTER, chars::HYPHEN);
+    let tag = find(list, lines, heads, nexts, &text[from..end]);
+    if tag == 0 {
+        return Step::Refused(Refusal::UnknownName(from));
+    }
+    let node = s.nodes;
+    words[node] = packed(tag as u64, s.top as u64, 0, 0);
+    let inside = Scan {
+        at: end,
+        top: node,
+        depth: s.depth + 1,
+        nodes: node + 1,
+    };
+    start_tag_end(classes, text, inside, words)
+}
+
+// What follows the name of a start tag: white, and > or />. No list is looked at, so the promise is for any list.
+fn start_tag_end(classes: &Classes, text: &[u8], s: Scan, words: &mut Words) -> Step
+    requires { ⌜ now classes ≡ table ⌝ }
+    requires { ⌜ (s .at ≤ length (now text)) × (s .top < s .nodes) × (s .nodes ≤ 4096) × (1 ≤ s .depth) ⌝ }
+    ensures { λ r. ⌜ GoesFrom start-gap (now (text .entry)) (now (words .entry)) (now (words .exit)) s r ⌝ }
+{
+    let at = skip(classes, text, s.at, chars::WHITE, chars::WHITE);
+    let class = class_at(classes, text, at);
+    if class == chars::GREATER {
+        return Step::On(moved(s, at + 1));
+    }
+    if class != chars::SLASH {
+        return Step::Refused(refusal_at(class, at));
+    }
+    let last = class_at(classes, text, at + 1);
+    if last != chars::GREATER {
+        return Step::Refused(refusal_at(last, at + 1));
+    }
+    Step::On(close(s, at + 2, words))
+}
+
+// An end tag, from behind its </ on.
+fn end_tag(
+    classes: &Classes,
+    list: &[u8],
+    lines: &PerName,
+    text: &[u8],
+    s: Scan,
+    words: &mut Words,
+) -> Step
+    requires { ⌜ now classes ≡ table ⌝ }
+    requires { ⌜ Listing (now list) (now lines) ⌝ }
+    requires { ⌜ (1 ≤ s .depth) × ReadsAt (now list) (now text) (now words) end-open s ⌝ }
+    ensures { λ r. ⌜ Goes (now (list .entry)) (now (text .entry)) (now (words .exit)) (s .at) r ⌝ }
+{
+    let from = s.at;
+    let first = class_at(classes, text, from);
+    if first != chars::LETTER {
+        return Step::Refused(refusal_at(first, from));
+    }
+    let end = skip(classes, text, from, chars::LETTER, chars::HYPHEN);
+    let innermost = s.top;
+    let tag = (words[innermost] % FIELD) as usize;
+    if !names::same_bytes(name_of(list, lines, tag), &text[from..end]) {
+        return Step::Refused(Refusal::OtherName(from));
+    }
+    let at = skip(classes, text, end, chars::WHITE, chars::WHITE);
+    let class = class_at(classes, text, at);
+    if class != chars::GREATER {
+        return Step::Refused(refusal_at(class, at));
+    }
+    Step::On(close(s, at + 1, words))
+}
+
+// A text, up to the < behind it. No list is looked at, so the promise is for any list.
+fn text_node(classes: &Classes, text: &[u8], s: Scan, words: &mut Words) -> Step
+    requires { ⌜ now classes ≡ table ⌝ }
+    requires { ⌜ (s .at ≤ length (now text)) × (length (now text) ≤ 65535) ⌝ }
+    requires { ⌜ (1 ≤ s .depth) × Solid (first-class (drop (s .at) (now text))) ⌝ }
+    ensures { λ r. ⌜ GoesFrom blank (now (text .entry)) (now (words .entry)) (now (words .exit)) s r ⌝ }
+{
+    let at = s.at;
+    let node = s.nodes;
+    if MOST_NODES <= node {
+        return Step::Refused(Refusal::ManyNodes(at));
+    }
+    let stop = text_end(classes, text, at);
+    let class = class_at(classes, text, stop);
+    if class != chars::LESS {
+        return Step::Refused(refusal_at(class, stop));
+    }
+    let end = trimmed_end(classes, text, at, stop);
+    let kind = kind_of(classes, &text[at..end]);
+    words[node] = packed(TEXT_SYMBOL + kind, 1, at as u64, (end - at) as u64);
+    Step::On(Scan {
+        at: stop,
+        top: s.top,
+        depth: s.depth,
+        nodes: node + 1,
+    })
+}
+
+// The scan at another offset.
+fn moved(s: Scan, at: usize) -> Scan
+    ensures { λ r. ⌜ r ≡ at-offset s at ⌝ }
+{
+    Scan {
+        at,
+        top: s.top,
+        depth: s.depth,
+        nodes: s.nodes,
+    }
+}
+
+// The refusal of a byte, by its class, or of the end of the text, that a form can't go on with.
+fn refusal_at(class: u8, at: usize) -> Refusal
+    ensures { λ r. ⌜ r ≡ stop-refusal class at ⌝ }
+{
+    if class == chars::FORBIDDEN {
+        return Refusal::ForbiddenByte(at);
+    }
+    Refusal::Syntax(at)
+}
+
+// ---- bytes
+
+// The class of a byte.
+fn class_in(classes: &Classes, byte: u8) -> u8
+    requires { ⌜ now classes ≡ table ⌝ }
+    ensures { λ r. ⌜ r ≡ class-number (class-of byte) ⌝ }
+{
+    classes[byte as usize]
+}
+
+// The class of the byte at an offset, or of the end.
+fn class_at(classes: &Classes, text: &[u8], at: usize) -> u8
+    requires { ⌜ now classes ≡ table ⌝ }
+    ensures { λ r. ⌜ r ≡ first-class (drop at (now (text .entry))) ⌝ }
+{
+    if at < text.len() {
+        return class_in(classes, text[at]);
+    }
+    END
+}
+
+// The offset behind the bytes, from an offset on, that are of class `low` to class `high`.
+fn skip(classes: &Classes, text: &[u8], at: usize, low: u8, high: u8) -> usize
+    requires { ⌜ now classes ≡ table ⌝ }
+    requires { ⌜ at ≤ length (now text) ⌝ }
+    ensures is { λ r. ⌜ r ≡ at + run (class-within low high) (drop at (now (text .entry))) ⌝ }
+    ensures within { λ r. ⌜ (at ≤ r) × (r ≤ length (now (text .entry))) ⌝ }
+{
+    let mut i = at;
+    while i < text.len() {
+        let class = class_in(classes, text[i]);
+        if !((low <= class) & (class <= high)) {
+            return i;
+        }
+        i += 1;
+    }
+    i
+}
+
+// ---- texts
+
+// The offset behind the text that begins at an offset, white at its end included.
+fn text_end(classes: &Classes, text: &[u8], at: usize) -> usize
+    requires { ⌜ now classes ≡ table ⌝ }
+    requires { ⌜ at ≤ length (now text) ⌝ }
+    ensures is { λ r. ⌜ r ≡ at + run text-byte (drop at (now (text .entry))) ⌝ }
+    ensures within { λ r. ⌜ (at ≤ r) × (r ≤ length (now (text .entry))) ⌝ }
+{
+    let mut i = at;
+    while i + BLOCK <= text.len() {
+        if !text_block(text, i) {
+            return text_tail(classes, text, i);
+        }
+        i += BLOCK;
+    }
+    text_tail(classes, text, i)
+}
+
+// The same, byte by byte.
+fn text_tail(classes: &Classes, text: &[u8], at: usize) -> usize
+    requires { ⌜ now classes ≡ table ⌝ }
+    ensures { λ r. ⌜ r ≡ at + run text-byte (drop at (now (text .entry))) ⌝ }
+{
+    let mut i = at;
+    while i < text.len() {
+        let class = class_in(classes, text[i]);
+        if !((class != chars::LESS) & (class != chars::GREATER) & (class != chars::FORBIDDEN)) {
+            return i;
+        }
+        i += 1;
+    }
+    i
+}
+
+// Whether a text may go on with each of the 16 bytes from an offset on. No byte ends the loop, so that all are tested together.
+fn text_block(text: &[u8], at: usize) -> bool
+    requires { ⌜ at + 16 ≤ length (now text) ⌝ }
+    ensures { λ r. ⌜ r ≡ every text-byte (take 16 (drop at (now (text .entry)))) ⌝ }
+{
+    let mut all = true;
+    let mut i = 0;
+    while i < BLOCK {
+        all = all & text_byte(text[at + i]);
+        i += 1;
+    }
+    all
+}
+
+// Whether a text may go on with a byte: white, or from ! to ~ but none of & < >. No table is read, so that 16 are tested together.
+fn text_byte(byte: u8) -> bool
+    ensures { λ r. ⌜ r ≡ text-byte byte ⌝ }
+{
+    ((byte == 9) | (byte == 10) | (byte == 13) | (32 <= byte))
+        & (byte <= 126)
+        & (byte != b'&')
+        & (byte != b'<')
+        & (byte != b'>')
+}
+
+// The offset behind the last byte, from `at` up to `stop`, that is not white.
+fn trimmed_end(classes: &Classes, text: &[u8], at: usize, stop: usize) -> usize
+    requires { ⌜ now classes ≡ table ⌝ }
+    requires { ⌜ (at ≤ stop) × (stop ≤ length (now text)) ⌝ }
+    ensures within { λ r. ⌜ (at ≤ r) × (r ≤ stop) ⌝ }
+    ensures trimmed { λ r. ⌜ take (r - at) (drop at (now (text .entry))) ≡ trim (take (stop - at) (drop at (now (text .entry)))) ⌝ }
+{
+    let mut end = stop;
+    while at < end {
+        if class_in(classes, text[end - 1]) != chars::WHITE {
+            return end;
+        }
+        end -= 1;
+    }
+    end
+}
+
+// The kind of a text: 1, digits only, or 2.
+fn kind_of(classes: &Classes, bytes: &[u8]) -> u64
+    requires { ⌜ now classes ≡ table ⌝ }
+    ensures is { λ r. ⌜ r ≡ kind-of-text (now (bytes .entry)) ⌝ }
+    ensures few { λ r. ⌜ r ≤ 2 ⌝ }
+{
+    if skip(classes, bytes, 0, chars::DIGIT, chars::DIGIT) == bytes.len() {
+        return 1;
+    }
+    2
+}
+
+// ---- names
+
+// The tag of a name, 0 where it is not listed.
+fn find(list: &[u8], lines: &PerName, heads: &PerBucket, nexts: &PerName, name: &[u8]) -> usize
+    requires { ⌜ Listing (now list) (now lines) ⌝ }
+    requires { ⌜ Chained (now list) (now heads) (now nexts) 0 ⌝ }
+    ensures { λ r. ⌜ r ≡ tag-of (now (list .entry)) (now (name .entry)) ⌝ }
+{
+    let mut tag = heads[bucket(name)];
+    while tag != 0 {
+        if names::same_bytes(name_of(list, lines, tag), name) {
+            return tag;
+        }
+        tag = nexts[tag];
+    }
+    0
+}
+
+// Chains the tags: `heads` has the first tag of each chain, `nexts` the tag behind each tag, 0 at the end. The last tag is chained
+// first, so that each chain ascends.
+fn chain(list: &[u8], lines: &PerName, count: usize, heads: &mut PerBucket, nexts: &mut PerName)
+    requires { ⌜ Listing (now list) (now lines) ⌝ }
+    requires { ⌜ count ≡ line-count (now list) ⌝ }
+    requires { ⌜ (now heads ≡ replicate 64 0) × (length (now nexts) ≡ 65) ⌝ }
+    ensures { λ r. ⌜ Chained (now (list .entry)) (now (heads .exit)) (now (nexts .exit)) 0 ⌝ }
+{
+    let mut tag = count;
+    while 0 < tag {
+        let chain = bucket(name_of(list, lines, tag));
+        nexts[tag] = heads[chain];
+        heads[chain] = tag;
+        tag -= 1;
+    }
+}
+
+// The chain that a name's tag is in.
+fn bucket(name: &[u8]) -> usize
+    ensures is { λ r. ⌜ r ≡ bucket (now (name .entry)) ⌝ }
+    ensures within { λ r. ⌜ r < 64 ⌝ }
+{
+    let mut hash = 0;
+    let mut i = 0;
+    while i < name.len() {
+        hash = (13 * hash + name[i] as usize) % BUCKETS;
+        i += 1;
+    }
+    hash
+}
+
+// The name of a tag.
+fn name_of<'a>(list: &'a [u8], lines: &PerName, tag: usize) -> &'a [u8]
+    requires { ⌜ Listing (now list) (now lines) ⌝ }
+    requires { ⌜ (1 ≤ tag) × (tag ≤ line-count (now list)) ⌝ }
+    ensures { λ r. ⌜ now r ≡ name-of (now (list .entry)) tag ⌝ }
+{
+    let from = lines[tag - 1];
+    let end = lines[tag] - 1;
+    &list[from..end]
+}
+
+// ---- nodes
+
+// A node's word.
+fn packed(symbol: u64, size: u64, start: u64, bytes: u64) -> u64
+    requires { ⌜ (symbol < 65536) × (size < 65536) × (start < 65536) × (bytes < 65536) ⌝ }
+    ensures { λ r. ⌜ r ≡ packed symbol size start bytes ⌝ }
+{
+    symbol + FIELD * (size + FIELD * (start + FIELD * bytes))
+}
+
+// The first n nodes, as four words each, at the front of the tree.
+fn unpack(words: &Words, n: usize, tree: &mut [u32])
+    requires { ⌜ (length (now words) ≡ 4096) × (n ≤ 4096) × (4 * n ≤ length (now tree)) ⌝ }
+    ensures { λ r. ⌜ now (tree .exit) ≡ all-unpacked (take n (now (words .entry))) ++ drop (4 * n) (now (tree .entry)) ⌝ }
+{
+    let mut k = 0;
+    while k < n {
+        put_node(tree, 4 * k, words[k]);
+        k += 1;
+    }
+}
+
+// A node, as four words from an index on.
+fn put_node(tree: &mut [u32], at: usize, word: u64)
+    requires { ⌜ at + 4 ≤ length (now tree) ⌝ }
+    ensures { λ r. ⌜ now (tree .exit) ≡ sets (now (tree .entry)) at (unpacked word) ⌝ }
+{
+    tree[at] = (word % FIELD) as u32;
+    tree[at + 1] = (word / FIELD % FIELD) as u32;
+    tree[at + 2] = (word / FIELD / FIELD % FIELD) as u32;
+    tree[at + 3] = (word / FIELD / FIELD / FIELD) as u32;
+}
+
+// The innermost open element ends: its size takes the place of its parent's node. The parent is the innermost one then.
+fn close(s: Scan, at: usize, words: &mut Words) -> Scan
+    requires { ⌜ (s .top < s .nodes) × (s .nodes ≤ 4096) × (1 ≤ s .depth) ⌝ }
+    ensures scan { λ r. ⌜ r ≡ closed-scan (now (words .entry)) s at ⌝ }
+    ensures words { λ r. ⌜ now (words .exit) ≡ closed-words (now (words .entry)) s ⌝ }
+{
+    let top = s.top;
+    let word = words[top];
+    words[top] = word % FIELD + FIELD * ((s.nodes - top) as u64);
+    Scan {
+        at,
+        top: (word / FIELD) as usize,
+        depth: s.depth - 1,
+        nodes: s.nodes,
+    }
+}

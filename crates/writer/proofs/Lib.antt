@@ -1,0 +1,11 @@
+mod Bytes
+mod TextLaws
+mod NodeLaws
+mod TagLaws
+mod Stores
+mod Standing
+mod Loops
+mod Lengths
+mod Listing
+mod Passed
+mod Outcomes

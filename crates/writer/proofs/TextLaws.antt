@@ -1,0 +1,81 @@
+-- Texts in a source: their bytes, and the tests of 11, byte by byte.
+use mathlib.Core.Path.{_≡_, refl, sym, _∙_}
+use mathlib.Core.Bool.{Bool, true, false, not, _&&_, _||_, and-assoc, and-true}
+use mathlib.Core.List.{List, [], _∷_}
+use Prim.Native.Nat.{ℕ, suc, _+_, _-_, _≤_, _<_}
+use native.Mathlib.Numerals.{add-one}
+use native.Mathlib.Omega.{arith}
+use borrow.Author.Tests.{leb-true}
+use lib.Dec.{leb}
+use lib.ListN.{length, getD, take, drop, length-drop, drop-of-length-le}
+use lib.Seq.{drop-cons, length-take-le}
+use Rattle.model.specs.Bytes.{white, is, class-of}
+use Rattle.model.specs.Lists.{every}
+use Rattle.model.specs.Tree.{Span}
+use Rattle.model.specs.Written.{source-bytes, text-byte, solid-byte, trimmed-text, good-text}
+use Rattle.model.proofs.Tests.{Yes, and-left}
+
+-- ---- bytes
+
+module _ (source : List ℕ) (w : Span) where
+  pub source-part : take (w .start + w .bytes - w .start) (drop (w .start) source) ≡ source-bytes source w
+  unfolding source-bytes
+  source-part = let n : w .start + w .bytes - w .start ≡ w .bytes = omega arith in rw n
+
+  pub source-length : w .start + w .bytes ≤ length source → length (source-bytes source w) ≡ w .bytes
+  unfolding source-bytes
+  source-length h = length-take-le (w .bytes) (drop (w .start) source) (rw length-drop (omega arith))
+
+  pub good-within : (k : ℕ) → Yes (good-text source k w) → w .start + w .bytes ≤ length source
+  unfolding good-text
+  good-within k h = leb-true _ _ (and-left (leb (w .start + w .bytes) (length source)) _ h)
+
+-- ---- a test of every byte, from byte i on
+
+module _ (f : ℕ → Bool) (s : List ℕ) (i : ℕ) where
+  every-at : i < length s → every f (drop i s) ≡ (f (getD s i 0) && every f (drop (i + 1) s))
+  unfolding every
+  every-at h = rw (add-one, drop-cons s i 0 h)
+
+  pub every-yes : i < length s → f (getD s i 0) ≡ true → every f (drop i s) ≡ every f (drop (i + 1) s)
+  every-yes h e = every-at h ∙ rw e
+
+  pub every-no : i < length s → f (getD s i 0) ≡ false → every f (drop i s) ≡ false
+  every-no h e = every-at h ∙ rw e
+
+  pub every-end : length s ≤ i → every f (drop i s) ≡ true
+  unfolding every
+  every-end h = rw (drop-of-length-le s {i = i} h)
+
+  -- the same with a flag for the bytes before byte i
+  pub flag-next : (good : Bool) {all here : Bool} → all ≡ (good && every f (drop i s)) → i < length s → here ≡ f (getD s i 0) → all ≡ ((good && here) && every f (drop (i + 1) s))
+  flag-next good {here = here} e h t = e ∙ rw (every-at h, ← t) (sym (and-assoc good here _))
+
+  pub flag-end : (good : Bool) {all : Bool} → all ≡ (good && every f (drop i s)) → length s ≤ i → all ≡ good
+  flag-end good e h = e ∙ rw (every-end h) (and-true good)
+
+-- ---- trimmed texts
+
+trimmed-by : (s : List ℕ) → 0 < length s
+    → trimmed-text s ≡ (not (is (class-of (getD s 0 0)) white || is (class-of (getD s (length s - 1) 0)) white) && every text-byte s)
+unfolding trimmed-text solid-byte
+trimmed-by [] h = absurd (omega arith)
+trimmed-by (b ∷ s) h =
+    let last : suc (length s) - 1 ≡ length s = omega arith in
+    rw last (go (is (class-of b) white) (is (class-of (getD (b ∷ s) (length s) 0)) white) (every text-byte (b ∷ s)))
+  where
+    go : (p q r : Bool) → (not p && (not q && r)) ≡ (not (p || q) && r)
+    go true q r = refl
+    go false q r = refl
+
+pub trimmed-none : (s : List ℕ) → length s ≡ 0 → trimmed-text s ≡ false
+unfolding trimmed-text
+trimmed-none [] h = refl
+trimmed-none (b ∷ s) h = absurd (omega arith)
+
+module _ (s : List ℕ) (some : 0 < length s) where
+  pub trimmed-white : (is (class-of (getD s 0 0)) white || is (class-of (getD s (length s - 1) 0)) white) ≡ true → trimmed-text s ≡ false
+  trimmed-white h = trimmed-by s some ∙ rw h
+
+  pub trimmed-solid : (is (class-of (getD s 0 0)) white || is (class-of (getD s (length s - 1) 0)) white) ≡ false → trimmed-text s ≡ every text-byte s
+  trimmed-solid h = trimmed-by s some ∙ rw h
