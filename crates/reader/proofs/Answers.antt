@@ -1,14 +1,12 @@
 -- What the call says, and the tree then, by what its checks and the one pass tell.
-use mathlib.Core.Path.{_≡_, refl, sym, ap, _∙_}
-use mathlib.Core.Bool.{Bool, true, false, cond}
+use mathlib.Core.Path.{_≡_, refl, _∙_}
 use mathlib.Core.List.{List, _++_}
-use Prim.Native.Nat.{ℕ, _+_, _*_, _≤_, _<_}
+use Prim.Native.Nat.{ℕ, _*_, _≤_, _<_}
 use native.Mathlib.Omega.{arith}
-use lib.Dec.{leb}
 use lib.ListN.{length, drop, take}
 use borrow.Author.Tests.{le-leb, lt-leb}
-use Rattle.model.specs.Answers.{Said, count, refusal, said-refusal, said, Checked, passes, refuses, _>>=_, _>>_, require, room-for, answer-of, buffer-after}
-use Rattle.model.specs.Tree.{Document, sizeD, wordsD}
+use Rattle.model.specs.Answers.{count, refusal, said-refusal, said, Checked, passes, refuses, _>>=_, _>>_, require, room-for, answer-of, buffer-after}
+use Rattle.model.specs.Tree.{sizeD}
 use Rattle.model.specs.Names.{names-of}
 use Rattle.model.specs.Text.{form-of}
 use Rattle.model.specs.Calls.{names-said, read-said, read-tree}

@@ -1,16 +1,16 @@
 -- The look-up of a name: by its tag's name, along the chain of its bucket; and how the chains are made.
-use mathlib.Core.Path.{_≡_, refl, sym, ap, _∙_}
+use mathlib.Core.Path.{_≡_, sym, ap, _∙_}
 use mathlib.Core.Logic.{_≢_}
 use mathlib.Core.Bool.{Bool, true, false}
 use mathlib.Core.List.{List}
-use Prim.Native.Nat.{ℕ, zero, suc, _+_, _-_, _*_, _%_, _≤_, _<_, min}
+use Prim.Native.Nat.{ℕ, _+_, _-_, _*_, _%_, _≤_, _<_, min}
 use native.Mathlib.Omega.{arith}
 use native.Mathlib.Decide.{ℕ-discrete}
 use lib.ListN.{length, getD, drop, set, replicate, drop-of-length-le, length-set, length-replicate, getD-replicate}
 use lib.Seq.{getD-set-same, getD-set-other}
 use Rattle.model.specs.Bytes.{same-bytes}
 use Rattle.model.specs.Names.{name-of, tag-of}
-use Rattle.model.proofs.Tests.{Yes, never}
+use Rattle.model.proofs.Tests.{never}
 use Rattle.model.proofs.NameLaws.{same-bytes-refl, bytes-same, tag-of-name, tag-some, tag-few, name-of-tag}
 use Rattle.names.specs.Lines.{line-count}
 use Rattle.names.proofs.IndexLaws.{Lies, name-lies}

@@ -1,12 +1,12 @@
 -- The words of a tree while it is read: what a node that is written leaves as it was, and what then stands in the words.
 use mathlib.Core.Path.{_≡_, refl, sym, ap, ap₂, _∙_}
 use mathlib.Core.List.{List, [], _∷_, _++_, append-assoc, append-nil}
-use Prim.Native.Nat.{ℕ, zero, suc, _+_, _-_, _*_, _/_, _%_, _≤_, _<_}
+use Prim.Native.Nat.{ℕ, suc, _+_, _-_, _*_, _/_, _%_, _≤_, _<_}
 use native.Mathlib.Numerals.{add-one}
 use native.Mathlib.Omega.{arith}
-use lib.ListN.{length, getD, take, drop, set, length-drop}
-use lib.Seq.{sets, sets-eq, length-sets, length-take-le, take-suc, take-at, drop-append-add, drop-set-add, drop-set-lt, take-set-le, take-suc-set, take-add, drop-drop, drop-cons, getD-set-same, getD-set-other, lt-length-set}
-use Rattle.model.specs.Tree.{Span, Element, text, tag, Document, ε, _·_, size, sizeD, node, words, wordsD}
+use lib.ListN.{length, getD, take, drop, set}
+use lib.Seq.{sets, sets-eq, length-sets, length-take-le, take-suc, take-at, drop-append-add, drop-set-add, drop-set-lt, take-set-le, take-add, drop-drop, drop-cons, getD-set-same, getD-set-other, lt-length-set}
+use Rattle.model.specs.Tree.{Span, Element, text, Document, ε, _·_, size, sizeD, node, words, wordsD}
 use Rattle.model.specs.Text.{Open, behind, tag-node}
 use Rattle.model.proofs.RoundScan.{an-open}
 use Rattle.reader.specs.Packed.{packed, unpacked, all-unpacked, Stands, OpenAt, Holds, outermost, inside}

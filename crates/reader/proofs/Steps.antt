@@ -1,23 +1,22 @@
 -- The one pass over a text, byte by byte, by the number of each byte's class.
 use mathlib.Core.Path.{_≡_, refl, sym, ap, _∙_}
-use mathlib.Core.Logic.{_≢_}
 use mathlib.Core.Bool.{Bool, true, false, cond, not, _&&_, _||_}
 use mathlib.Core.List.{List, [], _∷_}
-use Prim.Native.Nat.{ℕ, zero, suc, _+_, _-_, _≤_, _<_}
+use Prim.Native.Nat.{ℕ, suc, _+_, _≤_, _<_}
 use native.Mathlib.Nat.{add-zero}
 use native.Mathlib.Numerals.{add-one}
 use native.Mathlib.Omega.{arith}
 use native.Mathlib.Decide.{decLt}
 use lib.Dec.{eqb, leb}
 use lib.ListN.{length, getD, drop, drop-of-length-le}
-use lib.Seq.{drop-cons, drop-drop}
-use Rattle.model.specs.Lists.{has, every, numbers, from}
-use Rattle.model.specs.Answers.{Checked, passes, refuses}
+use lib.Seq.{drop-drop}
+use Rattle.model.specs.Lists.{has, every, numbers}
+use Rattle.model.specs.Answers.{Checked, refuses}
 use Rattle.model.specs.Tree.{Document}
 use Rattle.model.specs.Bytes.{Class, white, letter, digit, hyphen, less, greater, slash, other, forbidden, class-number, is, class-of, letter-byte}
 use Rattle.model.specs.Names.{tag-of}
-use Rattle.model.specs.Text.{Place, after, root-open, tag-open, Move, to, opens, begins, names, closes, stops, moves, move, move-number, place-number, does, Open, State, name-at, moved, innermost, start-tag, refusal-2, refusal-3, refusal-4, refusal-5, refusal-6, refusal-7, number-at}
-use Rattle.model.proofs.Tests.{Yes, never, or-cases}
+use Rattle.model.specs.Text.{Place, after, root-open, tag-open, Move, to, opens, begins, names, closes, stops, moves, move, move-number, does, Open, State, name-at, moved, innermost, start-tag, refusal-2, refusal-3, refusal-4, refusal-5, refusal-6, refusal-7, number-at}
+use Rattle.model.proofs.Tests.{Yes}
 use Rattle.model.proofs.ListLaws.{every-∈, ∈-numbers}
 use Rattle.model.proofs.Scan.{scan}
 use Rattle.model.proofs.RoundScan.{state}

@@ -1,21 +1,20 @@
 -- The one pass over a token at a time: white, start tags, end tags and texts, and what refuses each.
 use mathlib.Core.Path.{_≡_, refl, sym, ap, _∙_}
 use mathlib.Core.Logic.{_≢_, _⊎_, inl, inr}
-use mathlib.Core.Bool.{Bool, true, false, cond, not, _&&_, _||_}
+use mathlib.Core.Bool.{true, false, cond, not, _&&_, _||_}
 use mathlib.Core.List.{List, [], _∷_}
-use Prim.Native.Nat.{ℕ, zero, suc, _+_, _-_, _≤_, _<_}
-use native.Mathlib.Nat.{add-zero}
+use Prim.Native.Nat.{ℕ, zero, suc, _+_, _≤_, _<_}
 use native.Mathlib.Omega.{arith}
 use lib.Dec.{eqb, leb}
 use lib.ListN.{length, getD, drop, drop-of-length-le}
 use lib.Seq.{drop-drop}
 use borrow.Author.Tests.{eq-eqb, ne-eqb, le-leb, lt-leb}
 use Rattle.model.specs.Lists.{has, every, from}
-use Rattle.model.specs.Answers.{Checked, passes, refuses}
+use Rattle.model.specs.Answers.{passes, refuses}
 use Rattle.model.specs.Tree.{Document, ε}
-use Rattle.model.specs.Bytes.{Class, white, letter, digit, hyphen, less, greater, slash, other, forbidden, class-number, is, class-of, name-byte, within}
+use Rattle.model.specs.Bytes.{Class, white, letter, digit, hyphen, less, greater, slash, other, forbidden, class-number, is, class-of, within}
 use Rattle.model.specs.Names.{tag-of}
-use Rattle.model.specs.Text.{Place, before, root-open, blank, in-text, tag-open, start-name, start-gap, start-slash, end-open, end-name, end-gap, after, Move, to, opens, begins, stops, moves, move-number, place-number, does, Open, name-at, text-at, behind, text-node, tag-node, outside, closed, moved, innermost}
+use Rattle.model.specs.Text.{Place, before, root-open, blank, in-text, tag-open, start-name, start-gap, start-slash, end-open, end-name, end-gap, after, to, opens, begins, moves, move-number, place-number, does, Open, name-at, text-at, behind, text-node, closed, moved, innermost}
 use Rattle.model.specs.Written.{text-byte}
 use Rattle.model.proofs.Tests.{Yes, never, between-inv}
 use Rattle.model.proofs.ByteLaws.{text-cases}
@@ -23,7 +22,7 @@ use Rattle.model.proofs.Scan.{scan}
 use Rattle.model.proofs.RoundScan.{state, an-open}
 use Rattle.reader.specs.Runs.{run, class-within, first-class}
 use Rattle.reader.proofs.RunLaws.{run-left, run-on, byte-there, class-there}
-use Rattle.reader.proofs.Steps.{move-by, number-by, stops-but, stop-number, onward, step, stuck, stuck-there, forward, alike, run-stays}
+use Rattle.reader.proofs.Steps.{move-by, number-by, stop-number, onward, step, stuck, stuck-there, forward, alike, run-stays}
 
 -- ---- classes of a run's bytes
 

@@ -2,7 +2,7 @@
 use mathlib.Core.Path.{_≡_}
 use mathlib.Core.List.{List, [], _∷_, _++_}
 use Prim.Native.Nat.{ℕ, suc, _+_, _-_, _*_, _/_, _%_, _≤_}
-use lib.ListN.{length, getD, take, drop, set}
+use lib.ListN.{getD, take, drop, set}
 use Rattle.model.specs.Tree.{Document, sizeD, wordsD}
 use Rattle.model.specs.Text.{Open}
 use Rattle.reader.specs.declared.Scan.{Scan}

@@ -39,13 +39,14 @@ module _ (list starts source tree : List ℕ) where
   listed-append i j [] fs e h k = let z : i ≡ j = omega arith in rw z k
   listed-append i j (x ∷ es) fs e h k = (h .0, listed-append (i + 1) j es fs (omega arith) (h .1) k)
 
-  module _ (tags : ℕ) (names : names-of list ≡ passes tags) (index : Indexed list starts) where
-    adds-element : (i : ℕ) (c : Document) → symbol-at tree i < 65 → size-at tree i ≡ suc (sizeD c)
-        → own-bytes list (node-at tree i) ≡ own list (tag (symbol-at tree i) (span-at tree i) c)
-    unfolding own size
-    adds-element i ε h z = own-empty list (node-at tree i) h z
-    adds-element i (e · c) h z = own-pair list (node-at tree i) h (λ q. omega (arith, some-size e))
+  -- what an element adds, by its size
+  adds-element : (i : ℕ) (c : Document) → symbol-at tree i < 65 → size-at tree i ≡ suc (sizeD c)
+      → own-bytes list (node-at tree i) ≡ own list (tag (symbol-at tree i) (span-at tree i) c)
+  unfolding own size
+  adds-element i ε h z = own-empty list (node-at tree i) h z
+  adds-element i (e · c) h z = own-pair list (node-at tree i) h (λ q. omega (arith, some-size e))
 
+  module _ (tags : ℕ) (names : names-of list ≡ passes tags) (index : Indexed list starts) where
     -- a document is listed where it was read
     abbrev pub Read : Document → Type 0
     Read d = (levels i end : ℕ) (after-text : Bool) → 4 * end ≤ length tree → children tree tags (length tree) levels i end after-text ≡ passes d → Listed i (nodesD d)

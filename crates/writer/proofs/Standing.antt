@@ -22,6 +22,8 @@ use Rattle.writer.specs.Forms.{empty-tag, start-tag, end-tag, Stands}
 use Rattle.writer.specs.declared.Node.{Node}
 use Rattle.writer.proofs.TextLaws.{good-within}
 
+-- ---- what was read
+
 module _ (t : List ℕ) (g : ℕ) where
   -- the document from node i up to node `end` is empty, or it begins with a text, or with an element
   pub data First (levels i end : ℕ) : Document → Type 0 where
@@ -57,7 +59,24 @@ module _ (t : List ℕ) (g : ℕ) where
   first levels i end after-text d w e =
       first-seen levels i end after-text _ w (view t g levels i end after-text) (sym (children-step t g levels i end after-text (omega arith)) ∙ e)
 
--- ---- documents that are ready to be written
+-- ---- how an element is written, by its size
+
+pub some-size : (e : Element) → 1 ≤ size e
+unfolding size
+some-size (text k w) = omega arith
+some-size (tag a w d) = omega arith
+
+tagged-empty : (name content : List ℕ) (c : Document) → suc (sizeD c) ≡ 1 → tagged name c content ≡ empty-tag name
+unfolding tagged size
+tagged-empty name content ε h = refl
+tagged-empty name content (e · c) h = absurd (omega (arith, some-size e))
+
+tagged-full : (name content rest : List ℕ) (c : Document) → suc (sizeD c) ≢ 1 → tagged name c content ++ rest ≡ start-tag name ++ (content ++ (end-tag name ++ rest))
+unfolding tagged size
+tagged-full name content rest ε h = absurd (h refl)
+tagged-full name content rest (e · c) h = simp append-assoc
+
+-- ---- the first node of a document that stands in a tree
 
 module _ (list starts source tree : List ℕ) (levels i end : ℕ) (d : Document) (n : Node) where
   -- node i is n, a text: its bytes, and then the rest
@@ -80,22 +99,6 @@ module _ (list starts source tree : List ℕ) (levels i end : ℕ) (d : Document
     pub empty : n .size ≡ 1 → writtenD list source d ≡ empty-tag (name-of list (n .symbol)) ++ writtenD list source rest
     pub full : n .size ≢ 1
         → writtenD list source d ≡ start-tag (name-of list (n .symbol)) ++ (writtenD list source content ++ (end-tag (name-of list (n .symbol)) ++ writtenD list source rest))
-
--- an element with content, and one without
-pub some-size : (e : Element) → 1 ≤ size e
-unfolding size
-some-size (text k w) = omega arith
-some-size (tag a w d) = omega arith
-
-tagged-empty : (name content : List ℕ) (c : Document) → suc (sizeD c) ≡ 1 → tagged name c content ≡ empty-tag name
-unfolding tagged size
-tagged-empty name content ε h = refl
-tagged-empty name content (e · c) h = absurd (omega (arith, some-size e))
-
-tagged-full : (name content rest : List ℕ) (c : Document) → suc (sizeD c) ≢ 1 → tagged name c content ++ rest ≡ start-tag name ++ (content ++ (end-tag name ++ rest))
-unfolding tagged size
-tagged-full name content rest ε h = absurd (h refl)
-tagged-full name content rest (e · c) h = simp append-assoc
 
 module _ (list starts source tree : List ℕ) (levels i end : ℕ) (d : Document) (s : Stands list starts source tree levels i end d) where
   -- the same names, index and words, elsewhere in the tree

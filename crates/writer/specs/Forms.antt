@@ -36,7 +36,8 @@ end-tag name = less-byte ∷ slash-byte ∷ (name ++ (greater-byte ∷ []))
 
 -- ---- the document that stands in the words of a tree
 
--- Document d stands from node i up to node `end`, over a checked name list with its index; 11 refuses none of its nodes.
+-- Document d stands from node i up to node `end`, where `levels` elements may lie one in another, over a checked name list
+-- with its index; 11 refuses none of its nodes.
 pub record Stands (list starts text tree : List ℕ) (levels i end : ℕ) (d : Document) : Type 0 where
   pub tags : ℕ
   pub after-text : Bool

@@ -49,7 +49,7 @@ pub record Tag (list starts : List ℕ) (a : ℕ) : Type 0 where
   pub some : 1 ≤ a
   pub few : a ≤ tags
 
--- every node of a tree that is no text has such a tag
+-- every node of a tree, of at most 4,096 nodes, that is no text has such a tag
 pub record Tags (list starts tree : List ℕ) : Type 0 where
   pub few : length tree ≤ 16384
   pub each : (i : ℕ) → i < length tree / 4 → symbol-at tree i < 65 → Tag list starts (symbol-at tree i)

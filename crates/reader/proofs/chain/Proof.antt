@@ -1,6 +1,5 @@
 -- `reader::chain` meets its contract: the tags behind `tag` are chained.
-use mathlib.Core.Path.{_≡_, ap, _∙_}
-use Prim.Native.Nat.{_-_, _≤_}
+use mathlib.Core.Path.{ap, _∙_}
 use native.Mathlib.Omega.{arith}
 use borrow.Author.Needs.{needs}
 use Rattle.reader.specs.Chains.{bucket}

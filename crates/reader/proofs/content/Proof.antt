@@ -1,5 +1,4 @@
 -- `reader::content` meets its contract: between two tokens the text is read so far.
-use mathlib.Core.Path.{sym}
 use Prim.Native.Nat.{_-_}
 use native.Mathlib.Omega.{arith}
 use lib.ListN.{length}

@@ -1,6 +1,5 @@
 -- `reader::find` meets its contract: every tag of the name is ahead in the chain.
-use mathlib.Core.Path.{_≡_, sym, _∙_}
-use Prim.Native.Nat.{_-_}
+use mathlib.Core.Path.{sym}
 use native.Mathlib.Omega.{arith}
 use borrow.Author.Needs.{needs}
 use Rattle.reader.proofs.ChainLaws.{compared, tag-named, Ahead, chain-left, ahead-first, ahead-few, ahead-less, ahead-next, ahead-none}

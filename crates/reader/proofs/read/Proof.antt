@@ -1,7 +1,5 @@
 -- `reader::read` meets its contract.
-use mathlib.Core.Path.{sym, ap, _∙_}
 use borrow.Author.Needs.{needs}
-use Rattle.model.specs.Answers.{said}
 use Rattle.reader.proofs.Answers.{checked-names, refused-names}
 use Rattle.reader.proofs.read.Statement.{statement}
 use Rattle.reader.proofs.read.Tie as tie

@@ -1,5 +1,4 @@
 -- `reader::refusal_at` meets its contract.
-use borrow.Author.Needs.{needs}
 use borrow.Author.Tests.{eq-eqb, ne-eqb}
 use Rattle.reader.proofs.refusal_at.Statement.{statement}
 use Rattle.reader.proofs.refusal_at.Tie as tie

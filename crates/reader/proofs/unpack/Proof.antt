@@ -1,11 +1,8 @@
 -- `reader::unpack` meets its contract: the first k nodes are unpacked.
-use mathlib.Core.List.{_++_}
-use mathlib.Core.Path.{_≡_, refl, sym, ap, _∙_}
-use Prim.Native.Nat.{_-_, _*_, _≤_}
+use mathlib.Core.Path.{_≡_}
+use Prim.Native.Nat.{_-_, _≤_}
 use native.Mathlib.Omega.{arith}
-use lib.ListN.{length, take, drop}
 use borrow.Author.Needs.{needs}
-use Rattle.reader.specs.Packed.{all-unpacked}
 use Rattle.reader.proofs.PackLaws.{Unpacked, unpacked-none, unpacked-more}
 use Rattle.reader.proofs.unpack.Statement.{statement}
 use Rattle.reader.proofs.unpack.Tie as tie
