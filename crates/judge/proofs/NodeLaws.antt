@@ -1,0 +1,150 @@
+-- The nodes of a tree as a run looks at them: each of them by its words, and the state words of its children.
+use mathlib.Core.Path.{_≡_, refl, sym, ap, _∙_}
+use mathlib.Core.Bool.{Bool, true, false, cond}
+use mathlib.Core.List.{List, [], _∷_, _++_, append-assoc, append-nil}
+use Prim.Native.Nat.{ℕ, zero, suc, _+_, _-_, _*_, _≤_, _<_}
+use native.Mathlib.Nat.{sub-zero}
+use native.Mathlib.Numerals.{add-one}
+use native.Mathlib.Omega.{arith}
+use lib.Dec.{ltb}
+use lib.ListN.{length, getD, drop, length-drop}
+use lib.Seq.{drop-cons, drop-drop}
+use Rattle.model.specs.Tree.{Element, text, tag, Document, ε, _·_, size, sizeD, words, wordsD, symbol-at, size-at, tree-of}
+use Rattle.model.specs.Sheet.{Rule}
+use Rattle.model.specs.Run.{text-targets, element-targets, of-kind, element-looks, gist, Item, items, child-words, child-states, ran, put, judge-text, judge-element, judge-node}
+use Rattle.model.specs.Answers.{passes}
+use Rattle.model.proofs.TreeLaws.{length-words, tree-passes}
+use Rattle.judge.specs.Node.{Shaped, words-between, words-inside, node-targets, node-looks}
+
+-- ---- nodes by their words
+
+abbrev item-at : List ℕ → ℕ → Item
+item-at t i = record { symbol = symbol-at t i; size = size-at t i }
+
+pub items-at : (t : List ℕ) (i : ℕ) → 4 * (i + 1) ≤ length t → drop i (items t) ≡ item-at t i ∷ drop (i + 1) (items t)
+unfolding items
+items-at [] i h = absurd (omega arith)
+items-at (a ∷ []) i h = absurd (omega arith)
+items-at (a ∷ b ∷ []) i h = absurd (omega arith)
+items-at (a ∷ b ∷ c ∷ []) i h = absurd (omega arith)
+items-at (a ∷ b ∷ c ∷ d ∷ t) zero h = refl
+items-at (a ∷ b ∷ c ∷ d ∷ t) (suc i) h =
+    let e : 4 * suc i ≡ suc (suc (suc (suc (4 * i)))) = omega arith in
+    let f : 4 * suc i + 1 ≡ suc (suc (suc (suc (4 * i + 1)))) = omega arith in
+    rw (f, e, add-one (suc i)) (rw (add-one i) at (items-at t i (omega arith)))
+
+pub length-items : (n : ℕ) (t : List ℕ) → length t ≡ 4 * n → length (items t) ≡ n
+unfolding items
+length-items n [] h = omega arith
+length-items n (a ∷ []) h = absurd (omega arith)
+length-items n (a ∷ b ∷ []) h = absurd (omega arith)
+length-items n (a ∷ b ∷ c ∷ []) h = absurd (omega arith)
+length-items zero (a ∷ b ∷ c ∷ d ∷ t) h = absurd (omega arith)
+length-items (suc n) (a ∷ b ∷ c ∷ d ∷ t) h = ap suc (length-items n t (omega arith))
+
+-- each item has a size, and ends within the list
+abbrev Within : List Item → Type 0
+Within [] = Unit {0}
+Within (x ∷ xs) = (1 ≤ x .size) × (x .size ≤ suc (length xs)) × Within xs
+
+within-drop : (i : ℕ) (l : List Item) → Within l → Within (drop i l)
+within-drop zero l h = h
+within-drop (suc i) [] h = h
+within-drop (suc i) (x ∷ l) (a, b, h) = within-drop i l h
+
+-- so it is with the items of an element's words in front of others
+mutual
+  unfolding words size items
+
+  items-more : (e : Element) (t : List ℕ) → length (items (words e ++ t)) ≡ size e + length (items t)
+  items-more (text k w) t = omega arith
+  items-more (tag a w d) t = omega (arith, items-moreD d t)
+
+  items-moreD : (d : Document) (t : List ℕ) → length (items (wordsD d ++ t)) ≡ sizeD d + length (items t)
+  items-moreD ε t = omega arith
+  items-moreD (e · d) t = rw (append-assoc (words e) (wordsD d) t) (omega (arith, items-more e (wordsD d ++ t), items-moreD d t))
+
+mutual
+  unfolding words size items
+
+  within : (e : Element) (t : List ℕ) → Within (items t) → Within (items (words e ++ t))
+  within (text k w) t h = (omega arith, omega arith, h)
+  within (tag a w d) t h = (omega arith, omega (arith, items-moreD d t), withinD d t h)
+
+  withinD : (d : Document) (t : List ℕ) → Within (items t) → Within (items (wordsD d ++ t))
+  withinD ε t h = h
+  withinD (e · d) t h = rw (append-assoc (words e) (wordsD d) t) (within e (wordsD d ++ t) (withinD d t h))
+
+pub tree-shaped : {g : ℕ} {t : List ℕ} {e : Element} → g ≤ 64 → tree-of g t ≡ passes e → Shaped t (size e)
+unfolding items
+tree-shaped {g} {t} {e} few p =
+    let (w, o) = tree-passes g few t e .0 p in
+    let long : length t ≡ 4 * size e = ap length w ∙ length-words e in
+    let all : Within (items t) = rw (append-nil (words e), ← w) at (within e [] tt) in
+    record {
+      long = long;
+      few = o .few;
+      sizes = λ i h.
+          let (a, b, _) = rw (items-at t i (omega arith)) at (within-drop i (items t) all) in
+          (a, omega (arith, b, length-drop (i + 1) (items t), length-items (size e) t long));
+    }
+
+-- ---- the children of a node
+
+no-items : (n : ℕ) (st : List ℕ) → child-words n 0 [] st ≡ []
+unfolding child-words
+no-items zero st = refl
+no-items (suc n) st = refl
+
+no-words : (n : ℕ) (xs : List Item) → child-words n 0 xs [] ≡ []
+unfolding child-words
+no-words zero xs = refl
+no-words (suc n) [] = refl
+no-words (suc n) (x ∷ xs) = refl
+
+-- nodes inside the last child are passed over at once
+jump : (n k : ℕ) (xs : List Item) (st : List ℕ) → child-words n k xs st ≡ child-words (n - k) 0 (drop k xs) (drop k st)
+unfolding child-words
+jump n zero xs st = rw sub-zero
+jump zero (suc k) xs st = let e : 0 - suc k ≡ 0 = omega arith in rw e
+jump (suc n) (suc k) [] st = sym (no-items (suc n - suc k) (drop (suc k) st))
+jump (suc n) (suc k) (x ∷ xs) [] = sym (no-words (suc n - suc k) (drop k xs))
+jump (suc n) (suc k) (x ∷ xs) (s ∷ st) = let e : suc n - suc k ≡ n - k = omega arith in rw e (jump n k xs st)
+
+module _ {tree : List ℕ} (states : List ℕ) {n : ℕ} (t : Shaped tree n) (room : length states ≡ n) (first end : ℕ) where
+  pub words-done : end ≤ first → words-between tree states first end ≡ []
+  unfolding child-words
+  words-done h = let e : end - first ≡ 0 = omega arith in rw e
+
+  pub words-more : first < end → end ≤ n
+      → words-between tree states first end ≡ getD states first 0 ∷ words-between tree states (first + size-at tree first) end
+  unfolding child-words
+  words-more h k =
+      let z = size-at tree first in
+      let (some, _) = t .sizes first (omega arith) in
+      let e : end - first ≡ suc (end - first - 1) = omega arith in
+      let f : end - first - 1 - (z - 1) ≡ end - (first + z) = omega arith in
+      let g : first + 1 + (z - 1) ≡ first + z = omega arith in
+      rw (e, items-at tree first (omega (arith, t .long)), drop-cons states first 0 (omega arith), ← add-one first)
+      (ap (λ (l : List ℕ). getD states first 0 ∷ l)
+      (jump (end - first - 1) (z - 1) (drop (first + 1) (items tree)) (drop (first + 1) states)
+      ∙ rw (drop-drop (z - 1) (first + 1) (items tree), drop-drop (z - 1) (first + 1) states, f, g)))
+
+-- ---- what the run makes of a node
+
+pub node-judged : (R : List Rule) (tree states : List ℕ) (i m : ℕ)
+    → judge-node R (item-at tree i) (drop (i + 1) (items tree)) (ran (drop (i + 1) states) m)
+    ≡ put (gist (node-targets R tree states i)) (node-looks R tree states i) (drop (i + 1) states) m
+unfolding judge-node judge-text judge-element node-targets node-looks
+node-judged R tree states i m = go (ltb 64 (symbol-at tree i))
+  where
+    e : size-at tree i - 1 ≡ i + size-at tree i - (i + 1)
+    e = omega arith
+
+    go : (b : Bool)
+        → cond b (judge-text R (symbol-at tree i - 64) (drop (i + 1) states) m)
+        (judge-element R (symbol-at tree i) (child-states (child-words (size-at tree i - 1) 0 (drop (i + 1) (items tree)) (drop (i + 1) states))) (drop (i + 1) states) m)
+        ≡ put (gist (cond b (text-targets R (symbol-at tree i - 64)) (element-targets R (symbol-at tree i) (child-states (words-inside tree states i)))))
+        (cond b (of-kind 1 R) (element-looks R (child-states (words-inside tree states i)))) (drop (i + 1) states) m
+    go true = refl
+    go false = rw e

@@ -1,0 +1,73 @@
+-- The loops over the rules of kinds one and two: a rule's place, and what the rule adds.
+use mathlib.Core.Path.{_≡_, refl, _∙_}
+use mathlib.Core.Bool.{Bool, _&&_, _||_}
+use mathlib.Core.List.{List, _∷_, flatMap}
+use Prim.Native.Nat.{ℕ, _+_, _≤_, _<_}
+use native.Mathlib.Omega.{arith}
+use lib.Dec.{eqb}
+use lib.ListN.{length, getD, drop, drop-of-length-le}
+use Rattle.model.specs.Lists.{has, only}
+use Rattle.model.specs.Sheet.{Rule, mask, bit}
+use Rattle.model.specs.Run.{at-text, at-tag}
+use Rattle.model.proofs.Spans.{Along}
+use Rattle.bits.specs.Stands.{Stands}
+use Rattle.bits.proofs.SetLaws.{Gathers, gathers-none, gathers-more, gathers-all}
+use Rattle.judge.specs.Index.{OneAt, one-at, TwoAt, two-at}
+use Rattle.judge.proofs.WordLaws.{word-within, word-is}
+use Rattle.judge.proofs.KindLaws.{along-at}
+
+-- what the rules from the i-th on add to a set makes what all of them give
+pub record Adding (f : Rule → List ℕ) (R : List Rule) (i set : ℕ) : Type 0 where
+  pub so-far : Gathers set (flatMap f (drop i R)) (flatMap f R)
+
+pub adding-none : (f : Rule → List ℕ) (R : List Rule) → Adding f R 0 0
+adding-none f R = record { so-far = gathers-none (flatMap f R) }
+
+pub adding-all : {f : Rule → List ℕ} {R : List Rule} {i set : ℕ} → Adding f R i set → length R ≤ i → Stands set (flatMap f R)
+unfolding flatMap
+adding-all {R = R} g h = gathers-all (rw (drop-of-length-le R h) at (g .so-far))
+
+-- a rule that gives its target q where a test holds
+pub adding-one : {f : Rule → List ℕ} {R : List Rule} {i set : ℕ} → Adding f R i set → {q r : ℕ} {x : Rule} (flag : Bool) → drop i R ≡ x ∷ drop (i + 1) R
+    → f x ≡ only flag q → q < 64 → r ≡ mask 64 (λ j. bit set j || (flag && eqb j q)) → Adding f R (i + 1) r
+unfolding flatMap
+adding-one g {q = q} flag e t h m = record { so-far = gathers-more flag q h m (rw (e, t) at (g .so-far)) }
+
+-- ---- kind one
+
+module _ {s : List ℕ} {R : List Rule} {ones : List ℕ} (t : Along (OneAt s) R ones) {i : ℕ} (h : i < length ones) where
+  pub one-room : getD ones i 0 + 2 < length s
+  one-room = let (x, e, at) = along-at t i h in go at
+    where
+      go : {x : Rule} {a : ℕ} → OneAt s x a → a + 2 < length s
+      go (one-at _ w) = word-within w 2 (omega arith)
+
+  pub one-adds : (k : ℕ) {set r a : ℕ} → Adding (at-text k) R i set → a ≡ getD ones i 0
+      → r ≡ mask 64 (λ j. bit set j || (eqb (getD s (a + 1) 0) k && eqb j (getD s (a + 2) 0))) → Adding (at-text k) R (i + 1) r
+  unfolding at-text
+  one-adds k {set} {r} g ea m = let (x, e, at) = along-at t i h in go e at (rw ea at m)
+    where
+      go : {x : Rule} {a : ℕ} → drop i R ≡ x ∷ drop (i + 1) R → OneAt s x a
+          → r ≡ mask 64 (λ j. bit set j || (eqb (getD s (a + 1) 0) k && eqb j (getD s (a + 2) 0))) → Adding (at-text k) R (i + 1) r
+      go e (one-at {k = j} q w) m = adding-one g (eqb j k) e refl q (rw (word-is w 1 (omega arith), word-is w 2 (omega arith)) at m)
+
+-- ---- kind two
+
+module _ {s : List ℕ} {R : List Rule} {twos : List ℕ} (t : Along (TwoAt s) R twos) {i : ℕ} (h : i < length twos) where
+  pub two-room : getD twos i 0 + 3 < length s
+  two-room = let (x, e, at) = along-at t i h in go at
+    where
+      go : {x : Rule} {a : ℕ} → TwoAt s x a → a + 3 < length s
+      go (two-at _ w) = word-within w 3 (omega arith)
+
+  pub two-adds : (name : ℕ) {inner : ℕ} {l : List ℕ} → Stands inner l → {set r a : ℕ} {reached : Bool} → Adding (at-tag name l) R i set → a ≡ getD twos i 0
+      → reached ≡ bit inner (getD s (a + 2) 0)
+      → r ≡ mask 64 (λ j. bit set j || ((eqb (getD s (a + 1) 0) name && reached) && eqb j (getD s (a + 3) 0))) → Adding (at-tag name l) R (i + 1) r
+  unfolding at-tag
+  two-adds name {inner} {l} stands {set} {r} {a} {reached} g ea er m =
+      let (x, e, at) = along-at t i h in go e at (rw (er ∙ stands .same (getD s (a + 2) 0), ea) at m)
+    where
+      go : {x : Rule} {a : ℕ} → drop i R ≡ x ∷ drop (i + 1) R → TwoAt s x a
+          → r ≡ mask 64 (λ j. bit set j || ((eqb (getD s (a + 1) 0) name && has l (getD s (a + 2) 0)) && eqb j (getD s (a + 3) 0))) → Adding (at-tag name l) R (i + 1) r
+      go e (two-at {t = b} {c = c} q w) m =
+          adding-one g (eqb b name && has l c) e refl q (rw (word-is w 1 (omega arith), word-is w 2 (omega arith), word-is w 3 (omega arith)) at m)

@@ -1,0 +1,28 @@
+-- `node::element` meets its contract: a child without a state, content that reaches no state, and content that reaches some.
+use mathlib.Core.Path.{sym}
+use native.Mathlib.Omega.{arith}
+use borrow.Author.Needs.{needs}
+use lib.Seq.{length-take-le}
+use Rattle.judge.proofs.GatherLaws.{all-gathered, none-gathered}
+use Rattle.judge.proofs.ElementLaws.{children-words, element-stateless, element-unreached, element-reached}
+use Rattle.judge.proofs.node.element.Statement.{statement}
+use Rattle.judge.proofs.node.element.Tie as tie
+
+pub element-spec : {M : Type 1} → statement M
+element-spec =
+    tie.close
+    (tie.spec
+    (λ c κs. (c .before .before .before .before .before .before .before .pre .1 .1 .0 .0, c .before .before .before .before .before .before .before .pre .1 .1 .1))
+    (λ c. search needs)
+    (λ c. search needs)
+    (λ c. search needs)
+    (λ c. element-stateless _ _ _ (none-gathered _ _ (c .before .before .before .before .gather .ensures) (c .enum-told .given .1)))
+    (λ c. all-gathered _ _ (c .before .before .before .before .before .gather .ensures) (c .before .n .given .1) .1)
+    (λ c. sym (length-take-le _ _ (all-gathered _ _ (c .before .before .before .before .before .before .gather .ensures) (c .before .before .n .given .1) .1)))
+    (λ c κs. let (same, _, full) = all-gathered _ _ (c .before .before .before .before .before .before .gather .ensures) (c .before .before .n .given .1) in (c .before .before .before .before .before .before .before .before .before .before .before .before .before .before .pre .1 .0 .0, (c .before .before .before .before .before .before .before .before .before .before .before .before .before .before .pre .1 .0 .1, children-words _ (c .before .before .before .before .before .before .before .before .before .before .before .before .before .before .pre .1 .1 .0 .0) _ _ (c .before .before .before .before .before .before .before .before .before .before .before .before .before .before .pre .1 .1 .0 .1) (c .before .before .before .before .before .before .before .before .before .before .before .before .before .before .pre .1 .1 .1 .0) same full)))
+    (λ c. search needs)
+    (λ c. let (same, _, full) = all-gathered _ _ (c .before .before .before .before .before .before .before .before .gather .ensures) (c .before .before .before .before .n .given .1) in element-unreached _ _ _ same full (c .before .content .ensures) (c .if1 .taken))
+    (λ c κs. c .before .before .before .before .before .before .before .before .before .before .before .before .before .before .before .before .pre .0 .0)
+    (λ c. omega (arith, c .before .before .content .ensures .few, c .before .before .before .before .before .before .before .before .before .before .before .before .before .before .before .before .before .pre .0 .1))
+    (λ c. search needs)
+    (λ c. let (same, _, full) = all-gathered _ _ (c .before .before .before .before .before .before .before .before .before .gather .ensures) (c .before .before .before .before .before .n .given .1) in element-reached _ _ _ same full (c .before .before .content .ensures) (c .before .if1 .left) (c .before .before .before .before .before .before .before .before .before .before .before .before .before .before .before .before .before .pre .0 .0) (c .before .before .before .before .before .before .before .before .before .before .before .before .before .before .before .before .before .pre .0 .1) (c .tag-targets .ensures)))

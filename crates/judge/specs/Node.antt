@@ -1,0 +1,45 @@
+-- A node of a tree, as its words tell it: its children's state words, and what the run makes of it.
+use mathlib.Core.Path.{_≡_}
+use mathlib.Core.Bool.{cond}
+use mathlib.Core.List.{List, [], _∷_}
+use Prim.Native.Nat.{ℕ, _+_, _-_, _*_, _≤_, _<_}
+use lib.Dec.{ltb}
+use lib.ListN.{length, drop}
+use Rattle.model.specs.Answers.{passes}
+use Rattle.model.specs.Tree.{Element, size, symbol-at, size-at, tree-of}
+use Rattle.model.specs.Sheet.{Rule}
+use Rattle.judge.specs.Index.{sheet-in}
+use Rattle.model.specs.Run.{text-targets, element-targets, of-kind, element-looks, items, child-words, child-states}
+
+-- the words of a form of n nodes, over the tags of the sheet s
+pub record Form (s tree : List ℕ) (n : ℕ) : Type 0 where
+  pub form : Element
+  pub as-tree : tree-of (sheet-in s .tags) tree ≡ passes form
+  pub nodes : size form ≡ n
+
+-- n nodes, each of them with what is inside it
+pub record Shaped (tree : List ℕ) (n : ℕ) : Type 0 where
+  pub long : length tree ≡ 4 * n
+  pub few : n ≤ 4096
+  pub sizes : (i : ℕ) → i < n → (1 ≤ size-at tree i) × (i + size-at tree i ≤ n)
+
+-- state words: at most 64 states, and 0
+abbrev pub Small : List ℕ → Type 0
+Small [] = Unit {0}
+Small (x ∷ l) = (x ≤ 64) × Small l
+
+-- the state words of the elements side by side from node `first` up to node `end`
+abbrev pub words-between : (tree states : List ℕ) (first end : ℕ) → List ℕ
+words-between tree states first end = child-words (end - first) 0 (drop first (items tree)) (drop first states)
+
+-- those of the children of node i
+abbrev pub words-inside : (tree states : List ℕ) (i : ℕ) → List ℕ
+words-inside tree states i = words-between tree states (i + 1) (i + size-at tree i)
+
+-- the states that node i reaches, and the looks that it takes
+unfoldable pub node-targets : List Rule → (tree states : List ℕ) (i : ℕ) → List ℕ
+node-targets R tree states i =
+    cond (ltb 64 (symbol-at tree i)) (text-targets R (symbol-at tree i - 64)) (element-targets R (symbol-at tree i) (child-states (words-inside tree states i)))
+
+unfoldable pub node-looks : List Rule → (tree states : List ℕ) (i : ℕ) → ℕ
+node-looks R tree states i = cond (ltb 64 (symbol-at tree i)) (of-kind 1 R) (element-looks R (child-states (words-inside tree states i)))

@@ -1,0 +1,164 @@
+// Count parts: how often each state occurs, signed sums of these numbers, and steps over earlier steps.
+ghost use mathlib.Core.Path.{_≡_};
+ghost use mathlib.Core.Bool.{Bool};
+ghost use mathlib.Core.List.{List};
+ghost use mathlib.Core.Option.{some};
+ghost use Prim.Native.Nat.{ℕ, _+_, _*_, _^_, _<_};
+ghost use lib.ListN.{length, getD};
+ghost use lib.IntN.{pos, natAbs, _+ℤ_, _*ℤ_};
+ghost use Rattle.model.specs.Sheet.{bit};
+ghost use Rattle.model.specs.Words.{«fits-count»};
+ghost use Rattle.judge.specs.Parts.{StateWords, «states-of», Occurs, Counts, CountPart, SumAt, Summed, StepAt, Truths, Judged};
+
+pub(crate) const STATES: usize = 64;
+
+// kinds of steps
+const AT_MOST: u32 = 1;
+
+const REMAINDER: u32 = 2;
+
+const NOT: u32 = 3;
+
+const AND: u32 = 4;
+
+const OR: u32 = 5;
+
+// A sum, and the place past its words.
+struct Sum {
+    total: i32,
+    next: usize,
+}
+
+// Whether a step holds, and the place past its words.
+struct Step {
+    holds: bool,
+    next: usize,
+}
+
+// How often each state occurs among the children with these state words.
+pub(crate) fn occurrences(words: &[u32], counts: &mut [u32; STATES])
+    requires { ⌜ StateWords (now words) ⌝ }
+    ensures { λ r. ⌜ Occurs (now (counts .exit)) (states-of (now (words .entry))) ⌝ }
+{
+    *counts = [0; STATES];
+    let mut i = 0;
+    while i < words.len() {
+        let q = (words[i] - 1) as usize;
+        counts[q] = counts[q] + 1;
+        i += 1;
+    }
+}
+
+// A coefficient times a count, and what was summed before.
+fn plus_times(total: i32, times: i32, count: u32) -> i32
+    requires { ⌜ (natAbs total + natAbs times * count < 2 ^ 31) × (count < 2 ^ 31) ⌝ }
+    ensures { λ r. ⌜ r ≡ total +ℤ (times *ℤ pos count) ⌝ }
+{
+    total + times * (count as i32)
+}
+
+// The sum whose words begin at `from`: the coefficient of each marked state times its occurrences.
+fn sum_at(part: &[u32], from: usize, counts: &[u32; STATES]) -> Sum
+    requires part { ⌜ SumAt (now part) from ⌝ }
+    requires counts { ⌜ Counts (now counts) ⌝ }
+    ensures { λ r. ⌜ Summed (now (part .entry)) from (now (counts .entry)) (r .next) (r .total) ⌝ }
+{
+    let mut marks = bits::of_words(part[from], part[from + 1]);
+    let mut at = from + 2;
+    let mut total: i32 = 0;
+    while marks != 0 {
+        let q = bits::lowest(marks) as usize;
+        total = plus_times(total, bits::signed(part[at]), counts[q]);
+        at += 1;
+        marks = bits::without_lowest(marks);
+    }
+    Sum { total, next: at }
+}
+
+// A step of kind 1: a sum is at most a bound.
+fn at_most(part: &[u32], at: usize, counts: &[u32; STATES]) -> Step
+    requires part { ⌜ StepAt (now part) at × (getD (now part) at 0 ≡ 1) ⌝ }
+    requires counts { ⌜ Counts (now counts) ⌝ }
+    ensures { λ r. ⌜ ((earlier : List Bool) → Judged (now (part .entry)) at (now (counts .entry)) earlier (r .next) (r .holds)) ⌝ }
+{
+    let sum = sum_at(part, at + 1, counts);
+    let end = sum.next;
+    let total = sum.total;
+    let bound = bits::signed(part[end]);
+    Step {
+        holds: total <= bound,
+        next: end + 1,
+    }
+}
+
+// A step of kind 2: a sum leaves a remainder on division by a modulus.
+fn remainder(part: &[u32], at: usize, counts: &[u32; STATES]) -> Step
+    requires part { ⌜ StepAt (now part) at × (getD (now part) at 0 ≡ 2) ⌝ }
+    requires counts { ⌜ Counts (now counts) ⌝ }
+    ensures { λ r. ⌜ ((earlier : List Bool) → Judged (now (part .entry)) at (now (counts .entry)) earlier (r .next) (r .holds)) ⌝ }
+{
+    let sum = sum_at(part, at + 1, counts);
+    let end = sum.next;
+    let rest = bits::remainder(sum.total, part[end]);
+    Step {
+        holds: rest == part[end + 1],
+        next: end + 2,
+    }
+}
+
+// Whether the earlier step holds whose number stands at `at`.
+fn truth_at(part: &[u32], at: usize, truths: u64) -> bool
+    requires { ⌜ at < length (now part) ⌝ }
+    ensures { λ r. ⌜ r ≡ bit truths (getD (now (part .entry)) at 0) ⌝ }
+{
+    bits::has(truths, part[at])
+}
+
+// The step whose words begin at `at`, by its kind; bit i of `truths` says whether step i holds.
+fn step_at(part: &[u32], at: usize, counts: &[u32; STATES], truths: u64) -> Step
+    requires part { ⌜ StepAt (now part) at ⌝ }
+    requires counts { ⌜ Counts (now counts) ⌝ }
+    ensures { λ r. ⌜ ((earlier : List Bool) → Truths truths earlier → Judged (now (part .entry)) at (now (counts .entry)) earlier (r .next) (r .holds)) ⌝ }
+{
+    let kind = part[at];
+    match kind {
+        AT_MOST => at_most(part, at, counts),
+        REMAINDER => remainder(part, at, counts),
+        NOT => Step {
+            holds: !truth_at(part, at + 1, truths),
+            next: at + 2,
+        },
+        AND => Step {
+            holds: truth_at(part, at + 1, truths) & truth_at(part, at + 2, truths),
+            next: at + 3,
+        },
+        OR => Step {
+            holds: truth_at(part, at + 1, truths) | truth_at(part, at + 2, truths),
+            next: at + 3,
+        },
+        // no other kind passes the check of a sheet
+        _ => Step {
+            holds: false,
+            next: at,
+        },
+    }
+}
+
+// Whether children whose states occur so often fit a count part: the last step decides.
+pub(crate) fn count_fits(part: &[u32], counts: &[u32; STATES]) -> bool
+    requires part { ⌜ CountPart (now part) ⌝ }
+    requires counts { ⌜ Counts (now counts) ⌝ }
+    ensures { λ r. ⌜ ((h : CountPart (now (part .entry))) (w : List ℕ) → Occurs (now (counts .entry)) w → r ≡ fits-count (some (h .steps)) w) ⌝ }
+{
+    let steps = part[0];
+    let mut truths: u64 = 0;
+    let mut at: usize = 1;
+    let mut i: u32 = 0;
+    while i < steps {
+        let s = step_at(part, at, counts, truths);
+        truths = bits::with_if(s.holds, truths, i);
+        at = s.next;
+        i += 1;
+    }
+    bits::has(truths, steps - 1)
+}

@@ -1,0 +1,135 @@
+// A node: the states that it reaches, and the looks that it takes.
+ghost use mathlib.Core.Path.{_≡_};
+ghost use Prim.Native.Nat.{_+_, _*_, _^_, _≤_, _<_};
+ghost use lib.ListN.{length, drop};
+ghost use Rattle.model.specs.Tree.{size-at};
+ghost use Rattle.model.specs.Run.{element-targets, element-looks, child-states};
+ghost use Rattle.model.proofs.Spans.{Along};
+ghost use Rattle.judge.specs.Index.{rules-in, rules-of, TwoAt, ThreeIn, Indexed};
+ghost use Rattle.judge.specs.Node.{Shaped, Small, words-between, node-targets, node-looks};
+ghost use Rattle.judge.specs.Gathered.{Gathered};
+ghost use Rattle.judge.specs.Found.{Finds};
+use crate::content::Found;
+use crate::content::content;
+use crate::targets::tag_targets;
+use crate::targets::text_targets;
+use crate::wide;
+
+// words to a node
+const NODE: usize = 4;
+
+// symbols above these are texts, of a kind that is the rest
+const MOST_TAGS: u32 = 64;
+
+// The children of a node: one of them has no state, or all of them have one, and this is their number.
+enum Children {
+    Stateless,
+    Number(usize),
+}
+
+// The number of nodes that node i and what is inside it make.
+fn size_at(tree: &[u32], i: usize) -> usize
+    requires { ⌜ 4 * (i + 1) ≤ length (now tree) ⌝ }
+    ensures { λ r. ⌜ r ≡ size-at (now (tree .entry)) i ⌝ }
+{
+    wide(tree[NODE * i + 1])
+}
+
+// The state words of the elements side by side from node `first` up to node `end`, to the front of `words`.
+fn gather(tree: &[u32], states: &[u32], first: usize, end: usize, words: &mut [u32]) -> Children
+    requires tree { ⌜ Shaped (now tree) (length (now states)) ⌝ }
+    requires room { ⌜ (end ≤ length (now states)) × (length (now states) ≤ length (now words)) ⌝ }
+    ensures { λ r. ⌜ Gathered r (words-between (now (tree .entry)) (now (states .entry)) first end) (now (words .exit)) ⌝ }
+{
+    let mut n = 0;
+    let mut at = first;
+    while at < end {
+        let word = states[at];
+        if word == 0 {
+            return Children::Stateless;
+        }
+        words[n] = word;
+        n += 1;
+        at += size_at(tree, at);
+    }
+    Children::Number(n)
+}
+
+// The states that an element reaches: its content stands from node `first` up to node `end`. `words` is lent to gather in.
+fn element(
+    sheet: &[u32],
+    twos: &[u32],
+    threes: &[u32],
+    counted: bool,
+    tag: u32,
+    tree: &[u32],
+    states: &[u32],
+    first: usize,
+    end: usize,
+    words: &mut [u32],
+) -> Found
+    requires twos { ⌜ Along (TwoAt (now sheet)) (rules-of 2 (rules-in (now sheet))) (now twos) × (length (now twos) ≤ 1024) ⌝ }
+    requires threes { ⌜ Along (ThreeIn (now sheet) counted) (rules-of 3 (rules-in (now sheet))) (now threes) × (length (now threes) ≤ 1024) ⌝ }
+    requires tree { ⌜ Shaped (now tree) (length (now states)) × Small (drop first (now states)) ⌝ }
+    requires room { ⌜ (end ≤ length (now states)) × (length (now states) ≤ length (now words)) ⌝ }
+    ensures { λ f. ⌜ Finds (2 ^ 43) (f .targets) (f .looks) (element-targets (rules-in (now (sheet .entry))) tag (child-states (words-between (now (tree .entry)) (now (states .entry)) first end)))
+        (element-looks (rules-in (now (sheet .entry))) (child-states (words-between (now (tree .entry)) (now (states .entry)) first end))) ⌝ }
+{
+    let Children::Number(n) = gather(tree, states, first, end, words) else {
+        return Found {
+            targets: 0,
+            looks: 0,
+        };
+    };
+    let inside = content(sheet, threes, counted, &words[..n]);
+    let inner = inside.targets;
+    let looks = inside.looks;
+    if inner == 0 {
+        return Found { targets: 0, looks };
+    }
+    Found {
+        targets: tag_targets(sheet, twos, tag, inner),
+        looks: looks + twos.len(),
+    }
+}
+
+// The states that node i reaches, a text or an element.
+pub(crate) fn node(
+    sheet: &[u32],
+    ones: &[u32],
+    twos: &[u32],
+    threes: &[u32],
+    counted: bool,
+    tree: &[u32],
+    states: &[u32],
+    i: usize,
+    words: &mut [u32],
+) -> Found
+    requires index { ⌜ Indexed (now sheet) (now ones) (now twos) (now threes) counted ⌝ }
+    requires few { ⌜ (length (now ones) ≤ 1024) × (length (now twos) ≤ 1024) × (length (now threes) ≤ 1024) ⌝ }
+    requires tree { ⌜ Shaped (now tree) (length (now states)) × Small (drop (i + 1) (now states)) ⌝ }
+    requires room { ⌜ (i < length (now states)) × (length (now states) ≤ length (now words)) ⌝ }
+    ensures { λ f. ⌜ Finds (2 ^ 43) (f .targets) (f .looks) (node-targets (rules-in (now (sheet .entry))) (now (tree .entry)) (now (states .entry)) i)
+        (node-looks (rules-in (now (sheet .entry))) (now (tree .entry)) (now (states .entry)) i) ⌝ }
+{
+    let symbol = tree[NODE * i];
+    if MOST_TAGS < symbol {
+        return Found {
+            targets: text_targets(sheet, ones, symbol - MOST_TAGS),
+            looks: ones.len(),
+        };
+    }
+    let end = i + size_at(tree, i);
+    element(
+        sheet,
+        twos,
+        threes,
+        counted,
+        symbol,
+        tree,
+        states,
+        i + 1,
+        end,
+        words,
+    )
+}
