@@ -1,0 +1,13 @@
+mod NumberLaws
+mod PageLaws
+mod SetLaws
+mod SwapWords
+mod OrderWords
+mod PartLaws
+mod SumWords
+mod StepWords
+mod CountWords
+mod RuleWords
+mod PairingLaws
+mod JointLaws
+mod StartLaws

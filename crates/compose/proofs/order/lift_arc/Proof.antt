@@ -1,0 +1,19 @@
+-- `order::lift_arc` meets its contract.
+use native.Mathlib.Omega.{arith}
+use Rattle.model.specs.Sheet.{arc-word}
+use Rattle.compose.proofs.NumberLaws.{few-T}
+use borrow.Author.Needs.{needs}
+use Rattle.compose.proofs.order.lift_arc.Statement.{statement}
+use Rattle.compose.proofs.order.lift_arc.Tie as tie
+
+pub lift-arc-spec : {M : Type 1} → statement M
+unfolding arc-word
+lift-arc-spec =
+    tie.close
+    (tie.spec
+    (λ c κs. search needs)
+    (λ c κs. search needs)
+    (λ c κs. omega (arith, few-T (c .before .before .pre .0)))
+    (λ c κs. search needs)
+    (λ c κs. search needs)
+    (λ c. rw (c .arc-word .ensures, c .before .before .before .before .leaves .ensures .0, c .before .before .beside .ensures .0, c .before .before .before .reads .ensures .0, c .before .enters .ensures .0)))

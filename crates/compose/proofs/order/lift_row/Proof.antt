@@ -1,0 +1,36 @@
+-- `order::lift_row` meets its contract.
+use Prim.Native.Nat.{_-_}
+use native.Mathlib.Omega.{arith}
+use Rattle.model.specs.Lists.{from, numbers, row}
+use Rattle.model.specs.Compose.{of-other}
+use Rattle.compose.specs.Sides.{side-of, sizes-of}
+use Rattle.compose.specs.Arcs.{lifted-arc}
+use Rattle.compose.proofs.PageLaws.{Left, begun, more, done, kept, from-start, from-next, from-none, row-like, row-next, row-none}
+use Rattle.compose.proofs.NumberLaws.{few-other}
+use borrow.Author.Needs.{needs}
+use Rattle.compose.proofs.order.lift_row.Statement.{statement}
+use Rattle.compose.proofs.order.lift_row.Tie as tie
+
+abbrev Inv-loop : tie.InvT-loop
+Inv-loop w side sizes out₀ at n next₀ other₀ out next other =
+    let f = lifted-arc (side-of side) (sizes-of sizes) in
+    Left out₀ at (row f (numbers (of-other (side-of side) (sizes-of sizes))) w) out next (row f (from (n - other) other) w)
+
+abbrev μ-loop : tie.MeasureT-loop
+μ-loop w side sizes out₀ at n next₀ other₀ out next other = n - other
+
+pub lift-row-spec : {M : Type 1} → statement M
+lift-row-spec =
+    tie.close
+    (tie.spec
+    Inv-loop
+    μ-loop
+    (λ c κs. search needs)
+    (λ c. begun (row-like _ _ (from-start (c .of-other .ensures))))
+    (λ c κs. (c .before .before .before .before .before .pre, omega (arith, few-other (c .before .before .before .before .before .pre) (side-of (c .before .before .before .before .before .args .side)), c .before .before .before .of-other .ensures)))
+    (λ c κs. search needs)
+    (λ c. search needs)
+    (λ c. search needs)
+    (λ c. more (c .before .before .before .before .before .before .loop .inv) (row-next _ _ (from-next _ _ (c .before .before .before .before .before .loop-test .taken)) (c .before .before .before .lift-arc .ensures)) (c .before .before .put .ensures))
+    (λ c. kept (c .before .loop .inv))
+    (λ c. done (c .before .loop .inv) (row-none _ _ (from-none _ _ (c .loop-test .left)))))

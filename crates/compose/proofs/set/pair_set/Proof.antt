@@ -1,0 +1,40 @@
+-- `set::pair_set` meets its contract. The loop's invariant: the set has the bits from x on.
+use mathlib.Core.Path.{ap₂}
+use mathlib.Core.Bool.{Bool, true, _&&_}
+use Prim.Native.Nat.{ℕ, _-_, _*_, _/_, _%_}
+use native.Mathlib.Nat.{div-le-self, mod-le}
+use native.Mathlib.Omega.{arith}
+use Rattle.model.specs.Sheet.{bit}
+use Rattle.compose.proofs.SetLaws.{Upper, upper-none, upper-fits, upper-more, upper-all}
+use borrow.Author.Needs.{needs}
+use Rattle.compose.proofs.set.pair_set.Statement.{statement}
+use Rattle.compose.proofs.set.pair_set.Tie as tie
+
+abbrev both : (n s t x : ℕ) → Bool
+both n s t x = bit s (x / n) && bit t (x % n)
+
+abbrev Inv-loop : tie.InvT-loop
+Inv-loop m n s t set₀ x₀ set x = Upper (m * n) (both n s t) x set
+
+abbrev μ-loop : tie.MeasureT-loop
+μ-loop m n s t set₀ x₀ set x = x
+
+pub pair-set-spec : {M : Type 1} → statement M
+pair-set-spec =
+    tie.close
+    (tie.spec
+    Inv-loop
+    μ-loop
+    (λ c. search needs)
+    (λ c. upper-none _ _)
+    (λ c. search needs)
+    (λ c. search needs)
+    (λ c κs. omega (arith, div-le-self (c .before .loop .x - 1) (c .before .before .args .n), c .before .loop .inv .within))
+    (λ c. search needs)
+    (λ c κs. omega (arith, mod-le (c .before .before .loop .x - 1) (c .before .before .before .args .n), c .before .before .loop .inv .within))
+    (λ c. omega (arith, upper-fits (c .before .before .before .loop .inv) (c .before .before .loop-test .taken) (c .before .before .before .before .pre .0) true))
+    (λ c. search needs)
+    (λ c. record { fits = upper-fits (c .before .before .before .loop .inv) (c .before .before .loop-test .taken) (c .before .before .before .before .pre .0) (c .before .holds .result && c .holds2 .result) })
+    (λ c. search needs)
+    (λ c. upper-more (c .before .before .before .loop .inv) (c .before .before .loop-test .taken) (ap₂ _&&_ (c .before .holds .ensures) (c .holds2 .ensures)))
+    (λ c. upper-all (c .before .loop .inv) (c .loop-test .left)))

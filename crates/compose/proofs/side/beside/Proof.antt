@@ -1,0 +1,15 @@
+-- `side::beside` meets its contract.
+use borrow.Author.Needs.{needs}
+use Rattle.compose.proofs.side.beside.Statement.{statement}
+use Rattle.compose.proofs.side.beside.Tie as tie
+
+pub beside-spec : {M : Type 1} → statement M
+beside-spec =
+    tie.close
+    (tie.spec
+    (λ c. search needs)
+    (λ c κs. search needs)
+    (λ c. search needs)
+    (λ c κs. search needs)
+    (λ c. rw (c .before .enum-told .given .1) (c .pair .ensures))
+    (λ c. rw (c .before .enum-told2 .given .1) (c .pair2 .ensures)))

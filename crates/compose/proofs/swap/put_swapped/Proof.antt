@@ -1,0 +1,23 @@
+-- `swap::put_swapped` meets its contract.
+use mathlib.Core.Path.{refl}
+use native.Mathlib.Omega.{arith}
+use Rattle.compose.proofs.PageLaws.{then, as-words}
+use Rattle.compose.proofs.SwapWords.{sheet-long, turnable, turns, swapped-words}
+use borrow.Author.Needs.{needs}
+use Rattle.compose.proofs.swap.put_swapped.Statement.{statement}
+use Rattle.compose.proofs.swap.put_swapped.Tie as tie
+
+pub put-swapped-spec : {M : Type 1} → statement M
+put-swapped-spec =
+    tie.close
+    (tie.spec
+    (λ c. omega (arith, sheet-long (c .before .before .before .pre .1)))
+    (λ c. omega (arith, sheet-long (c .before .before .before .before .pre .1)))
+    (λ c. omega (arith, sheet-long (c .before .before .before .before .before .pre .1)))
+    (λ c κs. search needs)
+    (λ c κs. omega (arith, sheet-long (c .before .before .before .before .before .before .before .pre .1)))
+    (λ c κs. turnable (c .before .before .before .before .before .before .before .before .before .before .before .pre .1) refl (c .before .before .before .before .before .set-of .ensures))
+    (λ c κs. search needs)
+    (λ c κs. search needs)
+    (λ c. search needs)
+    (λ c. λ s h. as-words (swapped-words h (turns h (c .before .before .before .before .before .before .before .before .before .before .before .before .before .set-of .ensures) (c .before .before .before .before .before .before .before .turned .ensures))) (then (c .before .before .before .before .before .before .before .before .before .before .before .copy .ensures) (then (c .before .before .before .before .before .before .put-set .ensures) (c .before .before .copy2 .ensures)))))

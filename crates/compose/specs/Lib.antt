@@ -1,0 +1,6 @@
+pub mod Page
+pub mod Sides
+pub mod Arcs
+pub mod Sums
+pub mod Parts
+pub mod Rules

@@ -1,0 +1,9 @@
+// Swapping and joining sheets.
+mod count;
+mod joint;
+mod order;
+mod page;
+mod rule;
+mod set;
+mod side;
+mod swap;

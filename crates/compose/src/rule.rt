@@ -1,0 +1,114 @@
+// The rules of a sheet: where their parts stand, and how two rules pair up.
+ghost use mathlib.Core.Path.{_≡_};
+ghost use mathlib.Core.List.{List};
+ghost use Prim.Native.Nat.{ℕ, _+_, _≤_};
+ghost use lib.ListN.{length};
+ghost use Rattle.model.specs.Sheet.{Rule, rule-words};
+ghost use Rattle.compose.specs.Rules.{RuleAt, RulesAt, Starts, Content, content, ordered, counted, order-part, PairedAs};
+use crate::count::steps_end;
+
+// The maps of the rules: of a text, of a tag, and of content, with an order part, a count part or both.
+pub(crate) const TEXT: u32 = 33;
+
+pub(crate) const TAG: u32 = 38;
+
+pub(crate) const CONTENT: u32 = 32;
+
+pub(crate) const ORDER: u32 = 40;
+
+pub(crate) const COUNT: u32 = 48;
+
+pub(crate) const ORDER_COUNT: u32 = 56;
+
+// where the rules of a sheet begin
+const FIRST_RULE: usize = 6;
+
+// How two rules pair up.
+pub(crate) enum Pairing {
+    Apart,
+    Texts,
+    Tags,
+    Contents,
+}
+
+pub(crate) fn has_order(map: u32) -> bool
+    ensures { λ r. ⌜ r ≡ ordered map ⌝ }
+{
+    (map == ORDER) | (map == ORDER_COUNT)
+}
+
+pub(crate) fn has_count(map: u32) -> bool
+    ensures { λ r. ⌜ r ≡ counted map ⌝ }
+{
+    (map == COUNT) | (map == ORDER_COUNT)
+}
+
+// Where the count part of the content rule at `a` stands, or would stand.
+pub(crate) fn count_at(words: &[u32], a: usize) -> usize
+    requires { ⌜ ((p : ℕ) × (x : Content) × RuleAt p (now words) a (content x)) ⌝ }
+    ensures { λ r. ⌜ ((p : ℕ) (x : Content) → RuleAt p (now (words .entry)) a (content x) → r ≡ a + 1 + length (order-part (x .order))) ⌝ }
+{
+    if has_order(words[a]) {
+        return a + 5 + (words[a + 4] as usize);
+    }
+    a + 1
+}
+
+// Where the target of the rule at `a` stands, which is its last word.
+pub(crate) fn target_at(words: &[u32], a: usize) -> usize
+    requires { ⌜ ((p : ℕ) × (x : Rule) × RuleAt p (now words) a x) ⌝ }
+    ensures { λ r. ⌜ ((p : ℕ) (x : Rule) → RuleAt p (now (words .entry)) a x → r + 1 ≡ a + length (rule-words p x)) ⌝ }
+{
+    let map = words[a];
+    if map == TEXT {
+        return a + 2;
+    }
+    if map == TAG {
+        return a + 3;
+    }
+    let c = count_at(words, a);
+    if has_count(map) {
+        return steps_end(words, c + 1, words[c]);
+    }
+    c
+}
+
+// Rules pair up if both are of texts of the same kind, of the same tag, or of content.
+pub(crate) fn pair_up(first: &[u32], a: usize, second: &[u32], b: usize) -> Pairing
+    requires { ⌜ ((p : ℕ) × (q : ℕ) × (x : Rule) × (y : Rule) × RuleAt p (now first) a x × RuleAt q (now second) b y) ⌝ }
+    ensures { λ r. ⌜ ((p q : ℕ) (x y : Rule) → RuleAt p (now (first .entry)) a x → RuleAt q (now (second .entry)) b y → PairedAs r x y) ⌝ }
+{
+    let m = first[a];
+    let n = second[b];
+    let same = first[a + 1] == second[b + 1];
+    if m == TEXT {
+        if (n == TEXT) & same {
+            return Pairing::Texts;
+        }
+        return Pairing::Apart;
+    }
+    if m == TAG {
+        if (n == TAG) & same {
+            return Pairing::Tags;
+        }
+        return Pairing::Apart;
+    }
+    if (n == TEXT) | (n == TAG) {
+        return Pairing::Apart;
+    }
+    Pairing::Contents
+}
+
+// Finds where each of the `n` rules of a sheet stands.
+pub(crate) fn find_rules(words: &[u32], n: usize, starts: &mut [u16])
+    requires { ⌜ (length (now words) ≤ 16384) × (n ≤ length (now starts)) × ((p : ℕ) × (xs : List Rule) × RulesAt p (now words) 6 xs × (length xs ≡ n)) ⌝ }
+    ensures { λ _. ⌜ ((p : ℕ) (xs : List Rule) → RulesAt p (now (words .entry)) 6 xs → length xs ≡ n → Starts p (now (words .entry)) (now (starts .exit)) xs) ⌝ }
+{
+    let mut i = FIRST_RULE;
+    let mut k = 0;
+    while k < n {
+        starts[k] = i as u16;
+        i = target_at(words, i) + 1;
+        k += 1;
+    }
+}
