@@ -11,3 +11,4 @@ mod RuleWords
 mod PairingLaws
 mod JointLaws
 mod StartLaws
+mod ChainLaws
