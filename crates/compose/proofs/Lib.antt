@@ -12,3 +12,4 @@ mod PairingLaws
 mod JointLaws
 mod StartLaws
 mod ChainLaws
+mod LimitLaws

@@ -11,6 +11,7 @@ use Rattle.model.specs.Sheet.{Rule, one, two, three, rule-words}
 use Rattle.model.specs.Compose.{pair-rule}
 use Rattle.model.proofs.Tests.{Yes, and-left, and-right, or-left, or-right, or-cases, same, eqb-yes}
 use Rattle.model.proofs.Spans.{word-here, word-next}
+use Rattle.compose.specs.declared.rule.Pairing.{Pairing}
 use Rattle.compose.specs.declared.rule.Pairing.the-variants.{Apart, Texts, Tags, Contents}
 use Rattle.compose.specs.Rules.{RuleAt, content, PairedAs}
 use Rattle.compose.proofs.RuleWords.{IsContent, as-text, as-tag, as-content}
@@ -91,3 +92,7 @@ module _ {p q a b : ℕ} {s t : List ℕ} where
       let v = as-content x h e f in
       let w = as-content y k (λ i. false≢true (sym g ∙ or-left _ (eqb-yes i))) (λ i. false≢true (sym g ∙ or-right (eqb (getD t b 0) 33) (eqb-yes i))) in
       (v .fields, w .fields, v .is, w .is)
+
+-- what is known of two rules, by the case
+pub known : (x y : Rule) {r case : Pairing} → r ≡ case → PairedAs r x y → PairedAs case x y
+known x y e p = subst (λ (r : Pairing). PairedAs r x y) e p

@@ -4,3 +4,4 @@ pub mod Arcs
 pub mod Sums
 pub mod Parts
 pub mod Rules
+pub mod Limits

@@ -1,6 +1,7 @@
 // Swapping and joining sheets.
 mod count;
 mod joint;
+mod limits;
 mod order;
 mod page;
 mod rule;
