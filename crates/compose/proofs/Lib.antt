@@ -1,7 +1,7 @@
 mod NumberLaws
 mod PageLaws
 mod SetLaws
-mod SwapWords
+mod SheetWords
 mod OrderWords
 mod PartLaws
 mod SumWords
@@ -13,3 +13,4 @@ mod JointLaws
 mod StartLaws
 mod ChainLaws
 mod LimitLaws
+mod AnswerLaws

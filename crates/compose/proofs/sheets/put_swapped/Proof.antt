@@ -1,11 +1,11 @@
--- `swap::put_swapped` meets its contract.
+-- `sheets::put_swapped` meets its contract.
 use mathlib.Core.Path.{refl}
 use native.Mathlib.Omega.{arith}
 use Rattle.compose.proofs.PageLaws.{then, as-words}
-use Rattle.compose.proofs.SwapWords.{sheet-long, turnable, turns, swapped-words}
+use Rattle.compose.proofs.SheetWords.{sheet-long, turnable, turns, swapped-words}
 use borrow.Author.Needs.{needs}
-use Rattle.compose.proofs.swap.put_swapped.Statement.{statement}
-use Rattle.compose.proofs.swap.put_swapped.Tie as tie
+use Rattle.compose.proofs.sheets.put_swapped.Statement.{statement}
+use Rattle.compose.proofs.sheets.put_swapped.Tie as tie
 
 pub put-swapped-spec : {M : Type 1} → statement M
 put-swapped-spec =

@@ -1,4 +1,4 @@
-// The swapped sheet.
+// The words of swapped and joint sheets.
 ghost use Rattle.model.specs.Sheet.{Sheet, sheet-words};
 ghost use Rattle.model.specs.Compose.{swapped};
 ghost use Rattle.compose.specs.Page.{Writes};
