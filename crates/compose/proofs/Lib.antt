@@ -13,4 +13,5 @@ mod JointLaws
 mod StartLaws
 mod ChainLaws
 mod LimitLaws
+mod JoinWords
 mod AnswerLaws

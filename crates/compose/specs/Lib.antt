@@ -5,3 +5,4 @@ pub mod Sums
 pub mod Parts
 pub mod Rules
 pub mod Limits
+pub mod Joins
