@@ -78,9 +78,22 @@ pub(crate) fn put_joint(
     requires { ⌜ ((s t : Sheet) × Joins (now first) (now starts) (now second) (now others) (now heads) (now nexts) rules s t) ⌝ }
     ensures { λ r. ⌜ ((s t : Sheet) → Joins (now (first .entry)) (now (starts .entry)) (now (second .entry)) (now (others .entry)) (now (heads .entry)) (now (nexts .entry)) rules s t → Writes (now (out .entry)) 0 (sheet-words (joint s t)) (now (out .exit)) r) ⌝ }
 {
-    let sizes = Sizes { s: first[STATES], t: second[STATES] };
+    let sizes = Sizes {
+        s: first[STATES],
+        t: second[STATES],
+    };
     let headed = put_head(first, second, rules, out);
-    put_rules(first, starts, second, others, heads, nexts, sizes, out, headed)
+    put_rules(
+        first,
+        starts,
+        second,
+        others,
+        heads,
+        nexts,
+        sizes,
+        out,
+        headed,
+    )
 }
 
 // The number of words of the joint sheet of two sheets, up to one more than the most of a sheet.
@@ -97,5 +110,14 @@ pub(crate) fn joint_length(
     ensures { λ r. ⌜ ((s t : Sheet) → Joins (now (first .entry)) (now (starts .entry)) (now (second .entry)) (now (others .entry)) (now (heads .entry)) (now (nexts .entry)) rules s t → r ≡ min (length (sheet-words (joint s t))) 16385) ⌝ }
 {
     let mut none = [0u32; 0];
-    put_joint(first, starts, second, others, heads, nexts, rules, &mut none)
+    put_joint(
+        first,
+        starts,
+        second,
+        others,
+        heads,
+        nexts,
+        rules,
+        &mut none,
+    )
 }
