@@ -23,11 +23,13 @@ use crate::side::Sizes;
 const EDITION: u32 = 1;
 
 // Where the words of a sheet stand that come before its rules.
-const STATES: usize = 1;
+pub(crate) const STATES: usize = 1;
 
 const FINAL: usize = 2;
 
-const TAGS: usize = 4;
+pub(crate) const TAGS: usize = 4;
+
+pub(crate) const RULES: usize = 5;
 
 // The set of a sheet's final states.
 fn final_states(sheet: &[u32]) -> u64
