@@ -1,7 +1,7 @@
 mod NumberLaws
 mod PageLaws
 mod SetLaws
-mod SwapWords
+mod SheetWords
 mod OrderWords
 mod PartLaws
 mod SumWords
@@ -11,3 +11,7 @@ mod RuleWords
 mod PairingLaws
 mod JointLaws
 mod StartLaws
+mod ChainLaws
+mod LimitLaws
+mod JoinWords
+mod AnswerLaws

@@ -123,3 +123,36 @@ module _ (f : ℕ → ℕ → ℕ) where
   pub grid-none : {as′ : List ℕ} (bs : List ℕ) → as′ ≡ [] → grid f as′ bs ≡ []
   unfolding grid flatMap
   grid-none bs e = rw e
+
+-- ---- from the start of a buffer: the number of words, and the front of the buffer
+
+-- words within the most are stored one after another
+adds-all : (ws l : List ℕ) (i : ℕ) → i + length ws ≤ 16385 → adds (page l i) ws ≡ page (sets l i ws) (i + length ws)
+unfolding adds add
+adds-all [] l i h = let e : i ≡ i + 0 = omega arith in ap (page l) e
+adds-all (w ∷ ws) l i h =
+    let e : suc i + length ws ≡ i + length (w ∷ ws) = omega arith in
+    rw (tests.le-leb i 16384 (omega arith), add-one i) (adds-all ws (set l i w) (suc i) (omega arith) ∙ ap (page (sets (set l i w) (suc i) ws)) e)
+
+-- and all are counted, up to one more than the most
+add-next : (g : Page) (w : ℕ) → g .next ≤ 16385 → add g w .next ≡ min (g .next + 1) 16385
+unfolding add
+add-next g w h = go (told (leb (g .next) 16384))
+  where
+    go : Told (leb (g .next) 16384) → add g w .next ≡ min (g .next + 1) 16385
+    go (yea t) = let l = tests.leb-true (g .next) 16384 t in rw t (omega arith)
+    go (nay t) = let l = tests.leb-false (g .next) 16384 t in rw t (omega arith)
+
+adds-next : (ws : List ℕ) (g : Page) → g .next ≤ 16385 → adds g ws .next ≡ min (g .next + length ws) 16385
+unfolding adds
+adds-next [] g h = omega arith
+adds-next (w ∷ ws) g h = let e = add-next g w h in omega (arith, adds-next ws (add g w) (omega arith))
+
+module _ {l ws l′ : List ℕ} {i : ℕ} (p : Writes l 0 ws l′ i) where
+  pub counted : i ≡ min (length ws) 16385
+  counted = omega (arith, ap (λ (x : Page). x .next) (p .is), adds-next ws (page l 0) (omega arith))
+
+  pub front : length ws ≤ 16384 → length ws ≤ length l → l′ ≡ ws ++ drop (length ws) l
+  front few room =
+      let e : 0 + length ws ≡ length ws = omega arith in
+      ap (λ (x : Page). x .words) (p .is ∙ adds-all ws l 0 (omega arith)) ∙ sets-eq ws l 0 (omega arith) ∙ ap (λ (n : ℕ). ws ++ drop n l) e

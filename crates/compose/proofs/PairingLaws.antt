@@ -4,24 +4,24 @@ use mathlib.Core.Logic.{_⊎_, inl, inr, _≢_}
 use mathlib.Core.Bool.{Bool, false, _&&_, _||_, false≢true}
 use mathlib.Core.List.{List, []}
 use Prim.Native.Nat.{ℕ, _+_}
-use native.Mathlib.Omega.{arith}
 use lib.Dec.{eqb}
 use lib.ListN.{getD}
 use Rattle.model.specs.Lists.{only}
 use Rattle.model.specs.Sheet.{Rule, one, two, three, rule-words}
-use Rattle.model.specs.Compose.{Sizes, pair-rule}
+use Rattle.model.specs.Compose.{pair-rule}
 use Rattle.model.proofs.Tests.{Yes, and-left, and-right, or-left, or-right, or-cases, same, eqb-yes}
 use Rattle.model.proofs.Spans.{word-here, word-next}
+use Rattle.compose.specs.declared.rule.Pairing.{Pairing}
 use Rattle.compose.specs.declared.rule.Pairing.the-variants.{Apart, Texts, Tags, Contents}
 use Rattle.compose.specs.Rules.{RuleAt, content, PairedAs}
 use Rattle.compose.proofs.RuleWords.{IsContent, as-text, as-tag, as-content}
 
 -- the second word of a rule of a text, and of a tag
-text-key : {p a k q : ℕ} {s : List ℕ} → RuleAt p s a (one k q) → (getD s a 0 ≡ 33) × (getD s (a + 1) 0 ≡ k)
+pub text-key : {p a k q : ℕ} {s : List ℕ} → RuleAt p s a (one k q) → (getD s a 0 ≡ 33) × (getD s (a + 1) 0 ≡ k)
 unfolding rule-words
 text-key h = (word-here (h .there), word-here (word-next (h .there)))
 
-tag-key : {p a g c q : ℕ} {s : List ℕ} → RuleAt p s a (two g c q) → (getD s a 0 ≡ 38) × (getD s (a + 1) 0 ≡ g)
+pub tag-key : {p a g c q : ℕ} {s : List ℕ} → RuleAt p s a (two g c q) → (getD s a 0 ≡ 38) × (getD s (a + 1) 0 ≡ g)
 unfolding rule-words
 tag-key h = (word-here (h .there), word-here (word-next (h .there)))
 
@@ -92,3 +92,7 @@ module _ {p q a b : ℕ} {s t : List ℕ} where
       let v = as-content x h e f in
       let w = as-content y k (λ i. false≢true (sym g ∙ or-left _ (eqb-yes i))) (λ i. false≢true (sym g ∙ or-right (eqb (getD t b 0) 33) (eqb-yes i))) in
       (v .fields, w .fields, v .is, w .is)
+
+-- what is known of two rules, by the case
+pub known : (x y : Rule) {r case : Pairing} → r ≡ case → PairedAs r x y → PairedAs case x y
+known x y e p = subst (λ (r : Pairing). PairedAs r x y) e p

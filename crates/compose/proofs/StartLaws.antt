@@ -1,11 +1,11 @@
 -- Where the rules of a sheet stand: a table of their starts.
-use mathlib.Core.Path.{_≡_, refl, sym, ap, _∙_, subst}
+use mathlib.Core.Path.{_≡_, refl, sym, ap, _∙_}
 use mathlib.Core.List.{List, [], _∷_, _++_, flatMap, List·Memᴰ·head, List·Memᴰ·tail}
 use Prim.Native.Nat.{ℕ, zero, suc, _+_, _≤_, _<_}
 use native.Mathlib.Numerals.{add-one}
 use native.Mathlib.Omega.{arith}
 use lib.Dec.{eqb}
-use lib.ListN.{length, getD, drop, set, drop-of-length-le}
+use lib.ListN.{length, getD, drop, set, length-set, drop-of-length-le}
 use lib.Seq.{drop-cons, getD-set-same, getD-set-other}
 use Rattle.model.specs.Lists.{_∈_}
 use Rattle.model.specs.Sheet.{Rule, one, rule-words, RuleInRange}
@@ -15,43 +15,45 @@ use Rattle.compose.specs.Rules.{RuleAt, RulesAt, nth, Starts}
 use Rattle.compose.proofs.PartLaws.{PartsLeft, Next, next-part}
 
 -- the starts of the first k rules are found, and the rest stands from i on
-pub record Found (p : ℕ) (s : List ℕ) (n : ℕ) (xs : List Rule) (starts : List ℕ) (i k : ℕ) : Type 0 where
-  pub rest : PartsLeft (rule-words p) (RuleInRange p 64) s n i k (drop k xs)
-  pub number : length xs ≡ n
+pub record Found (p : ℕ) (s : List ℕ) (xs : List Rule) (starts : List ℕ) (i k : ℕ) : Type 0 where
+  pub rest : PartsLeft (rule-words p) (RuleInRange p 64) s (length xs) i k (drop k xs)
+  pub number : length xs ≡ length starts
   pub before : (j : ℕ) → j < k → RuleAt p s (getD starts j 0) (nth xs j)
 
-pub found-none : {p n : ℕ} {s : List ℕ} {xs : List Rule} {starts : List ℕ} → RulesAt p s 6 xs → length xs ≡ n → Found p s n xs starts 6 0
+pub found-none : {p : ℕ} {s : List ℕ} {xs : List Rule} {starts : List ℕ} → RulesAt p s 6 xs → length xs ≡ length starts → Found p s xs starts 6 0
 found-none h e = record { rest = record { stand = h; number = omega arith }; number = e; before = λ j l. absurd (omega arith) }
 
-module _ {p n i k : ℕ} {s : List ℕ} {xs : List Rule} {starts : List ℕ} (h : Found p s n xs starts i k) where
-  module _ (l : k < n) where
+module _ {p i k : ℕ} {s : List ℕ} {xs : List Rule} {starts : List ℕ} (h : Found p s xs starts i k) where
+  module _ (l : k < length starts) where
     -- the rule that stands at i
-    next : Next (rule-words p) (RuleInRange p 64) s n i k (nth xs k ∷ drop (suc k) xs)
-    next = next-part (nth xs k ∷ drop (suc k) xs) (rw (drop-cons xs k (one 0 0) (omega (arith, h .number))) at (h .rest)) l
+    next : Next (rule-words p) (RuleInRange p 64) s (length xs) i k (nth xs k ∷ drop (suc k) xs)
+    next =
+        let m : k < length xs = omega (arith, h .number) in
+        next-part (nth xs k ∷ drop (suc k) xs) (rw (drop-cons xs k (one 0 0) m) at (h .rest)) m
 
     pub found-here : RuleAt p s i (nth xs k)
     found-here = let e : next .part ≡ nth xs k = cc (next .split) in rw e at (next .here)
 
-    pub found-next : {b : ℕ} → k < length starts → b ≡ i + length (rule-words p (nth xs k)) → Found p s n xs (set starts k i) b (k + 1)
-    found-next {b} room e =
+    pub found-next : {b : ℕ} → b ≡ i + length (rule-words p (nth xs k)) → Found p s xs (set starts k i) b (k + 1)
+    found-next {b} e =
         let part : next .part ≡ nth xs k = cc (next .split) in
         let others : next .others ≡ drop (k + 1) xs = rw (add-one k) (cc (next .split)) in
         record {
           rest = rw others at (next .further {b = b} (rw part e));
-          number = h .number;
+          number = h .number ∙ sym (length-set starts k i);
           before = λ j m. go j m (told (eqb j k));
         }
       where
         go : (j : ℕ) → j < k + 1 → Told (eqb j k) → RuleAt p s (getD (set starts k i) j 0) (nth xs j)
         go j m (yea t) =
             let d : j ≡ k = same j k t in
-            rw (d, getD-set-same starts k i 0 room) found-here
+            rw (d, getD-set-same starts k i 0 l) found-here
         go j m (nay t) =
             let d = eqb-no {m = j} {n = k} t in
             rw (getD-set-other starts k j i 0 d) (h .before j (omega arith))
 
-  pub found-all : n ≤ k → Starts p s starts xs
-  found-all l = record { rule = λ j m. h .before j (omega (arith, h .number)) }
+  pub found-all : length starts ≤ k → Starts p s starts xs
+  found-all l = record { number = h .number; rule = λ j m. h .before j (omega (arith, h .number)) }
 
 -- ---- lists of rules, one at a time
 
@@ -70,7 +72,7 @@ module _ (xs : List Rule) {n j : ℕ} (number : length xs ≡ n) where
     pub rule-among : (f : Rule → List Rule) {z : Rule} → z ∈ f (nth xs j) → z ∈ flatMap f xs
     rule-among f m = ∈-each f (nth-∈ xs j (omega arith)) m
 
-    pub rules-next : (f : Rule → List Rule) → flatMap f (drop j xs) ≡ f (nth xs j) ++ flatMap f (drop (j + 1) xs)
+    pub rules-next : {B : Type 0} (f : Rule → List B) → flatMap f (drop j xs) ≡ f (nth xs j) ++ flatMap f (drop (j + 1) xs)
     unfolding flatMap
     rules-next f = ap (flatMap f) (drop-cons xs j (one 0 0) (omega arith)) ∙ ap (λ (k : ℕ). f (nth xs j) ++ flatMap f (drop k xs)) (sym (add-one j))
 

@@ -4,3 +4,5 @@ pub mod Arcs
 pub mod Sums
 pub mod Parts
 pub mod Rules
+pub mod Limits
+pub mod Joins

@@ -1,9 +1,10 @@
 -- Rules in the words of a sheet, and how two pair up.
 use mathlib.Core.Path.{_≡_}
+use mathlib.Core.Logic.{_≢_}
 use mathlib.Core.Bool.{Bool, true, false, cond, _||_}
 use mathlib.Core.List.{List, [], flatMap}
 use mathlib.Core.Option.{Option, none, some}
-use Prim.Native.Nat.{ℕ, _≤_, _<_}
+use Prim.Native.Nat.{ℕ, _+_, _≤_, _<_}
 use lib.Dec.{eqb}
 use lib.ListN.{length, getD}
 use Rattle.model.specs.Lists.{_∈_}
@@ -25,6 +26,7 @@ abbrev pub nth : List Rule → ℕ → Rule
 nth xs j = getD xs j (one 0 0)
 
 pub record Starts (p : ℕ) (s starts : List ℕ) (xs : List Rule) : Type 0 where
+  pub number : length xs ≡ length starts
   pub rule : (j : ℕ) → j < length xs → RuleAt p s (getD starts j 0) (nth xs j)
 
 -- ---- content rules
@@ -76,3 +78,25 @@ PairedAs Contents x y = (c d : Content) × (x ≡ content c) × (y ≡ content d
 -- no joint rule has over 64 positions
 abbrev pub FewPositions : List Rule → Type 0
 FewPositions rs = (z : Rule) → z ∈ rs → positions-of z ≤ 64
+
+-- ---- chains of rules
+
+-- Rules pair up where their keys are equal: 0 for content, 1 and 2 for texts, and 2 more than its number for a tag.
+unfoldable pub key : Rule → ℕ
+key (one k q) = k
+key (two a c q) = 2 + a
+key (three o φ q) = 0
+
+-- the first rule with the key k from index a on is rule i, or there is none and i is the number of rules
+pub record First (xs : List Rule) (k a i : ℕ) : Type 0 where
+  pub later : a ≤ i
+  pub few : i ≤ length xs
+  pub there : i < length xs → key (nth xs i) ≡ k
+  pub least : (j : ℕ) → a ≤ j → j < i → key (nth xs j) ≢ k
+
+-- the rules from index a on are chained: the first of each key, and behind each rule the next with its key
+pub record Chained (xs : List Rule) (heads nexts : List ℕ) (a : ℕ) : Type 0 where
+  pub keys : length heads ≡ 67
+  pub room : length xs ≤ length nexts
+  pub head : (k : ℕ) → k < 67 → First xs k a (getD heads k 0)
+  pub next : (j : ℕ) → a ≤ j → j < length xs → First xs (key (nth xs j)) (j + 1) (getD nexts j 0)

@@ -2,13 +2,12 @@
 ghost use mathlib.Core.Path.{_≡_};
 ghost use mathlib.Core.List.{List, flatMap};
 ghost use Prim.Native.Nat.{ℕ, _≤_};
-ghost use lib.ListN.{length};
 ghost use Rattle.model.specs.Sheet.{Rule, one, two, rule-words};
 ghost use Rattle.model.specs.Compose.{pair, joint-order, joint-count, pair-rule, joint-rules, positions-of};
 ghost use Rattle.model.proofs.Pairs.{of-pairs};
 ghost use Rattle.compose.specs.Page.{Writes};
 ghost use Rattle.compose.specs.Sides.{sizes-of, FewPairs};
-ghost use Rattle.compose.specs.Rules.{RuleAt, Starts, Content, content, joint-content, map-of, order-part, count-part, FewPositions};
+ghost use Rattle.compose.specs.Rules.{RuleAt, Starts, Chained, Content, content, joint-content, map-of, order-part, count-part, FewPositions};
 use crate::count::join_counts;
 use crate::count::lift_count;
 use crate::order::lift_order;
@@ -17,6 +16,7 @@ use crate::page::MOST_WORDS;
 use crate::page::put;
 use crate::rule::CONTENT;
 use crate::rule::COUNT;
+use crate::rule::KEYS;
 use crate::rule::ORDER;
 use crate::rule::ORDER_COUNT;
 use crate::rule::Pairing;
@@ -25,8 +25,10 @@ use crate::rule::TEXT;
 use crate::rule::count_at;
 use crate::rule::has_count;
 use crate::rule::has_order;
+use crate::rule::key_at;
 use crate::rule::pair_up;
 use crate::rule::target_at;
+use crate::rule::wide;
 use crate::side::Side;
 use crate::side::Sizes;
 use crate::side::pair;
@@ -180,60 +182,55 @@ pub(crate) fn put_pair(
     }
 }
 
-pub(crate) fn wide(start: u16) -> usize
-    ensures { λ r. ⌜ r ≡ start ⌝ }
-{
-    start as usize
-}
-
-// Writes the joint rules of the rule of S that stands at `a` and each of T's `n` rules, which stand at `starts`.
+// Writes the joint rules of the rule of S that stands at `a` and the rules of T with its key, along their chain.
 fn put_row(
     first: &[u32],
     a: usize,
     second: &[u32],
-    starts: &[u16],
-    n: usize,
+    others: &[u16],
+    heads: &[u16; KEYS],
+    nexts: &[u16],
     sizes: Sizes,
     out: &mut [u32],
     at: usize,
 ) -> usize
-    requires { ⌜ FewPairs (sizes-of sizes) × (n ≤ length (now starts)) × ((x : Rule) × (ys : List Rule) × RuleAt (sizes .s) (now first) a x × Starts (sizes .t) (now second) (now starts) ys × (length ys ≡ n) × FewPositions (flatMap (pair-rule (sizes-of sizes) x) ys)) ⌝ }
-    ensures { λ r. ⌜ ((x : Rule) (ys : List Rule) → RuleAt (sizes .s) (now (first .entry)) a x → Starts (sizes .t) (now (second .entry)) (now (starts .entry)) ys → length ys ≡ n → Writes (now (out .entry)) at (flatMap (rule-words (of-pairs (sizes-of sizes))) (flatMap (pair-rule (sizes-of sizes) x) ys)) (now (out .exit)) r) ⌝ }
+    requires { ⌜ FewPairs (sizes-of sizes) × ((x : Rule) × (ys : List Rule) × RuleAt (sizes .s) (now first) a x × Starts (sizes .t) (now second) (now others) ys × Chained ys (now heads) (now nexts) 0 × FewPositions (flatMap (pair-rule (sizes-of sizes) x) ys)) ⌝ }
+    ensures { λ r. ⌜ ((x : Rule) (ys : List Rule) → RuleAt (sizes .s) (now (first .entry)) a x → Starts (sizes .t) (now (second .entry)) (now (others .entry)) ys → Chained ys (now (heads .entry)) (now (nexts .entry)) 0 → Writes (now (out .entry)) at (flatMap (rule-words (of-pairs (sizes-of sizes))) (flatMap (pair-rule (sizes-of sizes) x) ys)) (now (out .exit)) r) ⌝ }
 {
     let mut next = at;
-    let mut j = 0;
-    while j < n {
-        let b = wide(starts[j]);
+    let mut j = wide(heads[key_at(first, a)]);
+    while j < others.len() {
+        let b = wide(others[j]);
         next = put_pair(first, a, second, b, sizes, out, next);
-        j += 1;
+        j = wide(nexts[j]);
     }
     next
 }
 
-// Writes the joint rules of S's `m` rules and T's `n` rules, S's order outermost.
+// Writes the joint rules of the rules of S and T, which stand at `starts` and `others`, S's order outermost.
 pub(crate) fn put_rules(
     first: &[u32],
     starts: &[u16],
-    m: usize,
     second: &[u32],
     others: &[u16],
-    n: usize,
+    heads: &[u16; KEYS],
+    nexts: &[u16],
     sizes: Sizes,
     out: &mut [u32],
     at: usize,
 ) -> usize
-    requires { ⌜ FewPairs (sizes-of sizes) × (m ≤ length (now starts)) × (n ≤ length (now others)) × ((xs : List Rule) × (ys : List Rule) × Starts (sizes .s) (now first) (now starts) xs × Starts (sizes .t) (now second) (now others) ys × (length xs ≡ m) × (length ys ≡ n) × FewPositions (joint-rules (sizes-of sizes) xs ys)) ⌝ }
-    ensures { λ r. ⌜ ((xs ys : List Rule) → Starts (sizes .s) (now (first .entry)) (now (starts .entry)) xs → Starts (sizes .t) (now (second .entry)) (now (others .entry)) ys → length xs ≡ m → length ys ≡ n → Writes (now (out .entry)) at (flatMap (rule-words (of-pairs (sizes-of sizes))) (joint-rules (sizes-of sizes) xs ys)) (now (out .exit)) r) ⌝ }
+    requires { ⌜ FewPairs (sizes-of sizes) × ((xs ys : List Rule) × Starts (sizes .s) (now first) (now starts) xs × Starts (sizes .t) (now second) (now others) ys × Chained ys (now heads) (now nexts) 0 × FewPositions (joint-rules (sizes-of sizes) xs ys)) ⌝ }
+    ensures { λ r. ⌜ ((xs ys : List Rule) → Starts (sizes .s) (now (first .entry)) (now (starts .entry)) xs → Starts (sizes .t) (now (second .entry)) (now (others .entry)) ys → Chained ys (now (heads .entry)) (now (nexts .entry)) 0 → Writes (now (out .entry)) at (flatMap (rule-words (of-pairs (sizes-of sizes))) (joint-rules (sizes-of sizes) xs ys)) (now (out .exit)) r) ⌝ }
 {
     let mut next = at;
     let mut i = 0;
-    while i < m {
+    while i < starts.len() {
         // no more is written or counted
         if MOST_WORDS < next {
             return next;
         }
         let a = wide(starts[i]);
-        next = put_row(first, a, second, others, n, sizes, out, next);
+        next = put_row(first, a, second, others, heads, nexts, sizes, out, next);
         i += 1;
     }
     next

@@ -1,10 +1,10 @@
 // The rules of a sheet: where their parts stand, and how two rules pair up.
 ghost use mathlib.Core.Path.{_≡_};
 ghost use mathlib.Core.List.{List};
-ghost use Prim.Native.Nat.{ℕ, _+_, _≤_};
+ghost use Prim.Native.Nat.{ℕ, _+_, _≤_, _<_};
 ghost use lib.ListN.{length};
 ghost use Rattle.model.specs.Sheet.{Rule, rule-words};
-ghost use Rattle.compose.specs.Rules.{RuleAt, RulesAt, Starts, Content, content, ordered, counted, order-part, PairedAs};
+ghost use Rattle.compose.specs.Rules.{RuleAt, RulesAt, Starts, Content, content, ordered, counted, order-part, PairedAs, key, Chained};
 use crate::count::steps_end;
 
 // The maps of the rules: of a text, of a tag, and of content, with an order part, a count part or both.
@@ -22,6 +22,13 @@ pub(crate) const ORDER_COUNT: u32 = 56;
 
 // where the rules of a sheet begin
 const FIRST_RULE: usize = 6;
+
+// the keys of the rules: 0 for content, 1 and 2 for the two kinds of text, 3 to 66 for the tags
+pub(crate) const KEYS: usize = 67;
+
+const CONTENT_KEY: usize = 0;
+
+const TEXT_KINDS: usize = 2;
 
 // How two rules pair up.
 pub(crate) enum Pairing {
@@ -99,16 +106,54 @@ pub(crate) fn pair_up(first: &[u32], a: usize, second: &[u32], b: usize) -> Pair
     Pairing::Contents
 }
 
-// Finds where each of the `n` rules of a sheet stands.
-pub(crate) fn find_rules(words: &[u32], n: usize, starts: &mut [u16])
-    requires { ⌜ (length (now words) ≤ 16384) × (n ≤ length (now starts)) × ((p : ℕ) × (xs : List Rule) × RulesAt p (now words) 6 xs × (length xs ≡ n)) ⌝ }
-    ensures { λ _. ⌜ ((p : ℕ) (xs : List Rule) → RulesAt p (now (words .entry)) 6 xs → length xs ≡ n → Starts p (now (words .entry)) (now (starts .exit)) xs) ⌝ }
+// Rules pair up where their keys are equal.
+pub(crate) fn key_at(words: &[u32], a: usize) -> usize
+    requires { ⌜ ((p : ℕ) × (x : Rule) × RuleAt p (now words) a x) ⌝ }
+    ensures { λ r. ⌜ ((p : ℕ) (x : Rule) → RuleAt p (now (words .entry)) a x → r ≡ key x) × (r < 67) ⌝ }
+{
+    let map = words[a];
+    if map == TEXT {
+        return words[a + 1] as usize;
+    }
+    if map == TAG {
+        return TEXT_KINDS + words[a + 1] as usize;
+    }
+    CONTENT_KEY
+}
+
+// Finds where each rule of a sheet stands, for a table with a place for each.
+pub(crate) fn find_rules(words: &[u32], starts: &mut [u16])
+    requires { ⌜ (length (now words) ≤ 16384) × ((p : ℕ) × (xs : List Rule) × RulesAt p (now words) 6 xs × (length xs ≡ length (now starts))) ⌝ }
+    ensures { λ _. ⌜ ((p : ℕ) (xs : List Rule) → RulesAt p (now (words .entry)) 6 xs → length xs ≡ length (now (starts .entry)) → Starts p (now (words .entry)) (now (starts .exit)) xs) ⌝ }
 {
     let mut i = FIRST_RULE;
     let mut k = 0;
-    while k < n {
+    while k < starts.len() {
         starts[k] = i as u16;
         i = target_at(words, i) + 1;
         k += 1;
+    }
+}
+
+// A start or an index from a table.
+pub(crate) fn wide(entry: u16) -> usize
+    ensures { λ r. ⌜ r ≡ entry ⌝ }
+{
+    entry as usize
+}
+
+// Chains the rules that stand at `starts` by their keys: `heads` has the first rule of each key, `nexts` the rule behind each
+// rule with its key, and where there is none the number of rules. The last rule is chained first, so that each chain ascends.
+pub(crate) fn chain_rules(words: &[u32], starts: &[u16], heads: &mut [u16; KEYS], nexts: &mut [u16])
+    requires { ⌜ (length (now starts) ≤ 1024) × (length (now starts) ≤ length (now nexts)) × ((p : ℕ) × (xs : List Rule) × Starts p (now words) (now starts) xs) ⌝ }
+    ensures { λ _. ⌜ ((p : ℕ) (xs : List Rule) → Starts p (now (words .entry)) (now (starts .entry)) xs → Chained xs (now (heads .exit)) (now (nexts .exit)) 0) ⌝ }
+{
+    *heads = [starts.len() as u16; KEYS];
+    let mut j = starts.len();
+    while 0 < j {
+        j -= 1;
+        let k = key_at(words, wide(starts[j]));
+        nexts[j] = heads[k];
+        heads[k] = j as u16;
     }
 }

@@ -235,7 +235,7 @@ joint-in-range s t s-ok t-ok within =
 
 -- ---- the number of rules
 
-pair-rule-count : (n : Sizes) (r u : Rule) → length (pair-rule n r u) ≤ 1
+pub pair-rule-count : (n : Sizes) (r u : Rule) → length (pair-rule n r u) ≤ 1
 unfolding pair-rule
 pair-rule-count n (one k s) (one j t) = length-only (eqb k j) _
 pair-rule-count n (one k s) (two b d t) = omega arith

@@ -1,7 +1,7 @@
 mod WalkLaws
 mod WordTests
 mod Marks
-mod Over
+pub mod Over
 mod Ends
 mod Files
 mod FileAnswers

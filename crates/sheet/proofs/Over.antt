@@ -1,19 +1,22 @@
 -- Bytes over at a file's end: a last word that is in no range is read as if it were missing, and no reader goes past the end.
-use mathlib.Core.Path.{_≡_, refl, ap, _∙_}
+-- So the place of a sheet's refusal is at most the most words of a sheet.
+use mathlib.Core.Path.{_≡_, refl, sym, ap, _∙_}
 use mathlib.Core.Bool.{Bool, true, false, cond, _&&_, and-false}
 use mathlib.Core.List.{List, [], _∷_, _++_, List·Memᴰ·head, List·Memᴰ·tail}
 use Prim.Native.Nat.{ℕ, _+_, _-_, _^_, _≤_, _<_, min}
 use native.Mathlib.Omega.{arith}
 use lib.Dec.{eqb, ltb, leb}
-use lib.ListN.{length, getD, length-append, List·getD-append}
+use lib.ListN.{length, getD, take, length-append, length-take, List·getD-append}
 use lib.Pow.{pow-mono}
 use lib.Seq.{getD-append-seam}
 use borrow.Author.Tests as tests
 use Rattle.model.specs.Lists.{_∈_, numbers}
-use Rattle.model.specs.Sheet.{W, Got, got, bad, Reader, give, then, _>>=_, word, between, below, one-of, all}
+use Rattle.model.specs.Answers.{passes, refuses}
+use Rattle.model.specs.Sheet.{Sheet, W, Got, got, bad, Reader, give, then, _>>=_, word, between, below, one-of, all}
 use Rattle.model.specs.Sheet.{set-below, arc-ok, arc, order, coefficient, sum, at-most-step, remainder-step, one-earlier, two-earlier, step, steps}
-use Rattle.model.specs.Sheet.{target, text-rule, tag-rule, order-rule, count-rule, order-count-rule, rule, sheet}
+use Rattle.model.specs.Sheet.{target, text-rule, tag-rule, order-rule, count-rule, order-count-rule, rule, sheet, ended, sheet-of}
 use Rattle.model.proofs.Tests.{Yes, Told, yea, nay, told, between-inv}
+use Rattle.model.proofs.CheckLaws.{refuses≢passes}
 use Rattle.model.proofs.ListLaws.{numbers-<}
 use Rattle.model.proofs.Spans.{word-there, word-reads}
 
@@ -21,12 +24,12 @@ use Rattle.model.proofs.Spans.{word-there, word-reads}
 abbrev pub over : List ℕ → List ℕ
 over s = s ++ (W ∷ [])
 
--- what is got ends at an index of at most len
+-- what is got ends, or stops, at an index of at most len
 abbrev pub Within : {A : Type 0} → ℕ → Got A → Type 0
 Within len (got a n) = n ≤ len
-Within len (bad k) = Unit {0}
+Within len (bad k) = k ≤ len
 
--- a last word in no range changes nothing, and where the reader gets a part, it ends within the words
+-- a last word in no range changes nothing, and the reader stays within the words
 pub record Closed {A : Type 0} (r : Reader A) : Type 0 where
   pub same : (s : List ℕ) (i : ℕ) → r (over s) i ≡ r s i
   pub inside : (s : List ℕ) (i : ℕ) → i ≤ length s → Within (length s) (r s i)
@@ -66,23 +69,32 @@ closed-then {A} {r = r} {f = f} h k = record { same = λ s i. rw (h .same s i) (
 
     on : (s : List ℕ) (g : Got A) → Within (length s) g → Within (length s) (then s g f)
     on s (got x n) l = k x .inside s n l
-    on s (bad j) l = tt
+    on s (bad j) l = l
+
+-- a word that fails is the place itself
+word-stops : (ok : ℕ → Bool) (s : List ℕ) (i : ℕ) {j : ℕ} → word ok s i ≡ bad j → i ≡ j
+unfolding word
+word-stops ok s i {j} e = go (ltb i (length s) && ok (getD s i 0)) e
+  where
+    go : (b : Bool) → cond b (got (getD s i 0) (i + 1)) (bad i) ≡ bad j → i ≡ j
+    go true e = cc
+    go false e = cc
 
 -- what a word's test tells is known of what follows
 closed-word : {B : Type 0} {ok : ℕ → Bool} {f : ℕ → Reader B} → ok W ≡ false → ((x : ℕ) → Yes (ok x) → Closed (f x)) → Closed (word ok >>= f)
 unfolding then word
 closed-word {ok = ok} {f = f} h k = record {
   same = λ s i. rw (last-fails ok h s i (λ x. got x (i + 1)) (λ x. got x (i + 1)) (bad i) (λ x. refl)) (go s i (word ok s i) refl);
-  inside = λ s i l. on s i (word ok s i) refl;
+  inside = λ s i l. on s i l (word ok s i) refl;
 }
   where
     go : (s : List ℕ) (i : ℕ) (g : Got ℕ) → word ok s i ≡ g → then (over s) g f ≡ then s g f
     go s i (got x n) e = k x (word-reads ok .forwards {s = s} {a = i} e .0) .same s n
     go s i (bad j) e = refl
 
-    on : (s : List ℕ) (i : ℕ) (g : Got ℕ) → word ok s i ≡ g → Within (length s) (then s g f)
-    on s i (got x n) e = let (y, p) = word-reads ok .forwards {s = s} {a = i} e in k x y .inside s n (omega (arith, word-there p, p .ends))
-    on s i (bad j) e = tt
+    on : (s : List ℕ) (i : ℕ) → i ≤ length s → (g : Got ℕ) → word ok s i ≡ g → Within (length s) (then s g f)
+    on s i l (got x n) e = let (y, p) = word-reads ok .forwards {s = s} {a = i} e in k x y .inside s n (omega (arith, word-there p, p .ends))
+    on s i l (bad j) e = omega (arith, word-stops ok s i e)
 
 closed-all : {A B : Type 0} {r : B → Reader A} (l : List B) → ((b : B) → b ∈ l → Closed (r b)) → Closed (all r l)
 unfolding all
@@ -92,7 +104,7 @@ closed-all (b ∷ l) h =
 
 closed-none : {A : Type 0} → Closed (one-of {A = A} [])
 unfolding one-of
-closed-none = record { same = λ s i. refl; inside = λ s i h. tt }
+closed-none = record { same = λ s i. refl; inside = λ s i h. h }
 
 closed-key : {A : Type 0} (k : ℕ) {r : Reader A} (cs : List (ℕ × Reader A)) → eqb W k ≡ false → Closed r → Closed (one-of cs) → Closed (one-of ((k, r) ∷ cs))
 unfolding one-of
@@ -178,3 +190,15 @@ closed-sheet =
     closed-word refl (λ edition _. closed-word refl (λ p y. closed-then (closed-set p (between-inv 1 64 p y .1)) (λ final.
     closed-word refl (λ g z. closed-word refl (λ n _.
     closed-then (closed-all (numbers n) (λ i _. closed-rule p (between-inv 1 64 p y .1) g (between-inv 1 64 g z .1))) (λ rs. closed-give _))))))
+
+pub refused-place : (s : List ℕ) {n i : ℕ} → sheet-of s ≡ refuses n i → i ≤ 16384
+unfolding sheet-of ended
+refused-place s {n} {i} e = go (sheet (take 16384 s) 0) (closed-sheet .inside (take 16384 s) 0 (omega arith)) e
+  where
+    go : (g : Got Sheet) → Within (length (take 16384 s)) g → ended (length s) g ≡ refuses n i → i ≤ 16384
+    go (got t m) l e = by (eqb m (length s)) e
+      where
+        by : (b : Bool) → cond b (passes t) (refuses 9 m) ≡ refuses n i → i ≤ 16384
+        by true e = absurd (refuses≢passes (sym e))
+        by false e = let d : m ≡ i = cc in omega (arith, length-take 16384 s)
+    go (bad k) l e = let d : k ≡ i = cc in omega (arith, length-take 16384 s)

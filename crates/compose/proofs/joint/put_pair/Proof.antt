@@ -1,18 +1,11 @@
 -- `joint::put_pair` meets its contract.
-use mathlib.Core.Path.{_≡_, subst}
-use Rattle.model.specs.Sheet.{Rule}
 use Rattle.compose.specs.Sides.{sizes-of}
-use Rattle.compose.specs.Rules.{PairedAs}
-use Rattle.compose.specs.declared.rule.Pairing.{Pairing}
 use Rattle.compose.proofs.PageLaws.{nothing, as-words}
+use Rattle.compose.proofs.PairingLaws.{known}
 use Rattle.compose.proofs.JointLaws.{apart-words, text-pair, tag-pair, content-pair}
 use borrow.Author.Needs.{needs}
 use Rattle.compose.proofs.joint.put_pair.Statement.{statement}
 use Rattle.compose.proofs.joint.put_pair.Tie as tie
-
--- what is known of two rules, by the case
-known : (x y : Rule) {r case : Pairing} → r ≡ case → PairedAs r x y → PairedAs case x y
-known x y e p = subst (λ (r : Pairing). PairedAs r x y) e p
 
 pub put-pair-spec : {M : Type 1} → statement M
 put-pair-spec =

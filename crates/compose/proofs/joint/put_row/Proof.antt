@@ -1,27 +1,32 @@
 -- `joint::put_row` meets its contract.
-use mathlib.Core.Path.{_≡_, refl}
+use mathlib.Core.Path.{_≡_, sym, ap, _∙_}
 use mathlib.Core.List.{List, flatMap}
-use Prim.Native.Nat.{ℕ, _-_}
+use Prim.Native.Nat.{_-_, _<_}
+use native.Mathlib.Omega.{arith}
 use lib.ListN.{length, drop}
 use Rattle.model.specs.Sheet.{Rule, rule-words}
 use Rattle.model.specs.Compose.{pair-rule}
 use Rattle.model.proofs.Pairs.{of-pairs}
+use Rattle.model.proofs.ListLaws.{each-append}
 use Rattle.compose.specs.Sides.{sizes-of}
-use Rattle.compose.specs.Rules.{RuleAt, Starts}
+use Rattle.compose.specs.Rules.{RuleAt, nth, Starts, key, Chained}
 use Rattle.compose.proofs.PageLaws.{Left, begun, more, done, kept}
-use Rattle.compose.proofs.StartLaws.{start-here, rule-among, words-next, words-none}
+use Rattle.compose.proofs.StartLaws.{start-here, rule-among, words-none}
+use Rattle.compose.proofs.ChainLaws.{keys-apart, chain-first, chain-next, chain-later}
 use borrow.Author.Needs.{needs}
 use Rattle.compose.proofs.joint.put_row.Statement.{statement}
 use Rattle.compose.proofs.joint.put_row.Tie as tie
 
+-- what the rules from j on give is left to write, and rule j has the key of S's rule
 abbrev Inv-loop : tie.InvT-loop
-Inv-loop first a second starts n sizes out₀ at next₀ j₀ out next j =
+Inv-loop first a second others heads nexts sizes out₀ at next₀ j₀ out next j =
     let words = rule-words (of-pairs (sizes-of sizes)) in
-    (x : Rule) (ys : List Rule) → RuleAt (sizes .s) first a x → Starts (sizes .t) second starts ys → length ys ≡ n
+    (x : Rule) (ys : List Rule) → RuleAt (sizes .s) first a x → Starts (sizes .t) second others ys → Chained ys heads nexts 0
     → Left out₀ at (flatMap words (flatMap (pair-rule (sizes-of sizes) x) ys)) out next (flatMap words (flatMap (pair-rule (sizes-of sizes) x) (drop j ys)))
+    × (j < length ys → key (nth ys j) ≡ key x)
 
 abbrev μ-loop : tie.MeasureT-loop
-μ-loop first a second starts n sizes out₀ at next₀ j₀ out next j = n - j
+μ-loop first a second others heads nexts sizes out₀ at next₀ j₀ out next j = length others - j
 
 pub put-row-spec : {M : Type 1} → statement M
 put-row-spec =
@@ -29,17 +34,31 @@ put-row-spec =
     (tie.spec
     Inv-loop
     μ-loop
-    (λ c. λ x ys h k e. begun refl)
+    (λ c κs. let (few, (x, ys, h, k, chained, small)) = c .before .before .before .before .before .pre in (_, x, h))
+    (λ c. omega (arith, c .key-at .ensures .1))
+    (λ c. c .key-at .ensures .1)
+    (λ c κs. search needs)
+    (λ c.
+    λ x ys h k chained.
+    let (all, there) = chain-first (pair-rule _ x) (keys-apart _ x) chained (c .before .before .key-at .ensures .0 _ x h) (c .before .before .key-at .ensures .1) (c .wide .ensures) in
+    (begun (ap (flatMap _) (sym all)), there))
     (λ c. search needs)
     (λ c. search needs)
     (λ c κs. search needs)
-    (λ c κs.
-    let (few, room, (x, ys, h, k, e, small)) = c .before .before .before .before .before .before .before .before .before .pre in
-    (few, (x, _, h, start-here ys e (c .before .before .before .loop-test .taken) k (c .before .wide .ensures), λ z m. small z (rule-among ys e (c .before .before .before .loop-test .taken) (pair-rule _ x) m))))
-    (λ c. search needs)
-    (λ c. search needs)
+    (λ c κs. let (few, (x, ys, h, k, chained, small)) = c .before .before .before .before .before .before .before .before .before .before .before .before .before .pre in
+    (few, (x, _, h, start-here ys (k .number) (c .before .before .before .loop-test .taken) k (c .before .wide2 .ensures), λ z m. small z (rule-among ys (k .number) (c .before .before .before .loop-test .taken) (pair-rule _ x) m))))
+    (λ c. let (few, (x, ys, h, k, chained, small)) = c .before .before .before .before .before .before .before .before .before .before .before .before .before .before .before .before .pre in
+    omega (arith, chained .room, k .number))
+    (λ c. let (few, (x, ys, h, k, chained, small)) = c .before .before .before .before .before .before .before .before .before .before .before .before .before .before .before .before .before .pre in
+    omega (arith, chained .room, k .number))
+    (λ c κs. search needs)
+    (λ c. let (few, (x, ys, h, k, chained, small)) = c .before .before .before .before .before .before .before .before .before .before .before .before .before .before .before .before .before .before .pre in
+    omega (arith, chain-later chained (omega (arith, k .number)) (c .wide3 .ensures)))
     (λ c.
-    λ x ys h k e.
-    more (c .before .before .before .before .before .before .before .loop .inv x ys h k e) (words-next ys e (c .before .before .before .before .before .before .loop-test .taken) _ (pair-rule _ x)) (c .before .before .put-pair .ensures x _ h (start-here ys e (c .before .before .before .before .before .before .loop-test .taken) k (c .before .before .before .before .wide .ensures))))
-    (λ c. let (few, room, (x, ys, h, k, e, small)) = c .before .before .before .before .before .before .pre in kept (c .before .loop .inv x ys h k e))
-    (λ c. λ x ys h k e. done (c .before .loop .inv x ys h k e) (words-none ys e _ (pair-rule _ x) (c .loop-test .left))))
+    λ x ys h k chained.
+    let (left, key) = c .before .before .before .before .before .before .before .before .before .loop .inv x ys h k chained in
+    let inside : c .before .before .before .before .before .before .before .before .before .loop .j < length ys = omega (arith, k .number) in
+    let (next, there) = chain-next (pair-rule _ x) (keys-apart _ x) chained inside (key inside) (c .wide3 .ensures) in
+    (more left (ap (flatMap _) next ∙ each-append _ (pair-rule _ x (nth ys (c .before .before .before .before .before .before .before .before .before .loop .j))) _) (c .before .before .before .before .put-pair .ensures x _ h (start-here ys (k .number) (c .before .before .before .before .before .before .before .before .loop-test .taken) k (c .before .before .before .before .before .before .wide2 .ensures))), there))
+    (λ c. let (few, (x, ys, h, k, chained, small)) = c .before .before .before .before .before .before .before .before .before .before .pre in kept (c .before .loop .inv x ys h k chained .0))
+    (λ c. λ x ys h k chained. done (c .before .loop .inv x ys h k chained .0) (words-none ys (k .number) _ (pair-rule _ x) (c .loop-test .left))))

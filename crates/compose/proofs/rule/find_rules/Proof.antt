@@ -13,10 +13,10 @@ use Rattle.compose.proofs.rule.find_rules.Statement.{statement}
 use Rattle.compose.proofs.rule.find_rules.Tie as tie
 
 abbrev Inv-loop : tie.InvT-loop
-Inv-loop words n starts₀ i₀ k₀ starts i k = (length starts ≡ length starts₀) × ((p : ℕ) (xs : List Rule) → RulesAt p words 6 xs → length xs ≡ n → Found p words n xs starts i k)
+Inv-loop words starts₀ i₀ k₀ starts i k = (length starts ≡ length starts₀) × ((p : ℕ) (xs : List Rule) → RulesAt p words 6 xs → length xs ≡ length starts₀ → Found p words xs starts i k)
 
 abbrev μ-loop : tie.MeasureT-loop
-μ-loop words n starts₀ i₀ k₀ starts i k = n - k
+μ-loop words starts₀ i₀ k₀ starts i k = length starts - k
 
 pub find-rules-spec : {M : Type 1} → statement M
 find-rules-spec =
@@ -25,22 +25,21 @@ find-rules-spec =
     Inv-loop
     μ-loop
     (λ c. (refl, λ p xs h e. found-none h e))
-    (λ c. let (short, few, (p, xs, h, e)) = c .before .before .before .before .pre in omega (arith, rule-there (found-here (c .before .loop .inv .1 p xs h e) (c .loop-test .taken))))
+    (λ c. let (short, (p, xs, h, e)) = c .before .before .before .before .pre in omega (arith, rule-there (found-here (c .before .loop .inv .1 p xs h e) (c .loop-test .taken))))
     (λ c. search needs)
     (λ c. search needs)
-    (λ c κs. let (short, few, (p, xs, h, e)) = c .before .before .before .before .pre in (p, _, found-here (c .before .loop .inv .1 p xs h e) (c .loop-test .taken)))
+    (λ c κs. let (short, (p, xs, h, e)) = c .before .before .before .before .pre in (p, _, found-here (c .before .loop .inv .1 p xs h e) (c .loop-test .taken)))
     (λ c.
-    let (short, few, (p, xs, h, e)) = c .before .before .before .before .before .pre in
+    let (short, (p, xs, h, e)) = c .before .before .before .before .before .pre in
     let here = found-here (c .before .before .loop .inv .1 p xs h e) (c .before .loop-test .taken) in
     omega (arith, rule-there here, c .target-at .ensures p _ here))
     (λ c. search needs)
-    (λ c. search needs)
+    (λ c. omega (arith, length-set (c .before .before .loop .starts) (c .before .before .loop .k) (c .before .before .loop .i)))
     (λ c. (
       simp length-set (c .before .before .loop .inv .0),
       λ p xs h e.
           let found = c .before .before .loop .inv .1 p xs h e in
-          let here = found-here found (c .before .loop-test .taken) in
-          found-next found (c .before .loop-test .taken) (omega arith) (c .target-at .ensures p _ here),
+          found-next found (c .before .loop-test .taken) (c .target-at .ensures p _ (found-here found (c .before .loop-test .taken))),
     ))
     (λ c. c .before .loop .inv .0)
     (λ c. λ p xs h e. found-all (c .before .loop .inv .1 p xs h e) (c .loop-test .left)))

@@ -32,6 +32,14 @@ module _ {ws : List ℕ} {s : Sheet} (h : Passed ws s) where
   unfolding sheet-words
   states-word = ap (λ (l : List ℕ). getD l 1 0) (h .words)
 
+  pub tags-word : getD ws 4 0 ≡ s .tags
+  unfolding sheet-words set-words
+  tags-word = ap (λ (l : List ℕ). getD l 4 0) (h .words)
+
+  pub rules-word : getD ws 5 0 ≡ length (s .rules)
+  unfolding sheet-words set-words
+  rules-word = ap (λ (l : List ℕ). getD l 5 0) (h .words)
+
   pub final-words : getD ws 2 0 + getD ws 3 0 * W ≡ mask (s .states) (has (s .final))
   unfolding sheet-words set-words
   final-words =
@@ -50,10 +58,8 @@ module _ {ws : List ℕ} {s : Sheet} (h : Passed ws s) where
       rw (all, h .words) (ap (λ (n : ℕ). 1 ∷ s .states ∷ n % W ∷ n / W ∷ drop 4 (sheet-words s)) e′)
 
   -- the final states' number is of a set below the number of states
-  pub turnable : {states final : ℕ} → states ≡ getD ws 1 0 → final ≡ getD ws 2 0 + getD ws 3 0 * W → (1 ≤ states) × (states ≤ 64) × (final < 2 ^ states)
-  turnable {states} {final} e f =
-      let p : states ≡ s .states = e ∙ states-word in
-      rw (p, f ∙ final-words) (h .ranges .some-states, h .ranges .few-states, mask-< (s .states) (has (s .final)))
+  pub turnable : {final : ℕ} → final ≡ mask (s .states) (has (s .final)) → (1 ≤ getD ws 1 0) × (getD ws 1 0 ≤ 64) × (final < 2 ^ getD ws 1 0)
+  turnable e = rw (states-word, e) (h .ranges .some-states, h .ranges .few-states, mask-< (s .states) (has (s .final)))
 
-  pub turns : {r final : ℕ} → final ≡ getD ws 2 0 + getD ws 3 0 * W → r + final + 1 ≡ 2 ^ getD ws 1 0 → r ≡ mask (s .states) (λ q. not (has (s .final) q))
-  turns e t = turned-is (s .states) (has (s .final)) (e ∙ final-words) (t ∙ ap (λ (k : ℕ). 2 ^ k) states-word)
+  pub turns : {r final : ℕ} → final ≡ mask (s .states) (has (s .final)) → r + final + 1 ≡ 2 ^ getD ws 1 0 → r ≡ mask (s .states) (λ q. not (has (s .final) q))
+  turns e t = turned-is (s .states) (has (s .final)) e (t ∙ ap (λ (k : ℕ). 2 ^ k) states-word)

@@ -1,0 +1,227 @@
+-- What the public calls say and leave in the lent buffer, by the checks on the way.
+use mathlib.Core.Path.{_≡_, refl, sym, ap, _∙_, subst}
+use mathlib.Core.Logic.{_≢_}
+use mathlib.Core.List.{List}
+use Prim.Native.Nat.{ℕ, _+_, _≤_, _<_, min}
+use native.Mathlib.Omega.{arith}
+use lib.ListN.{length, getD}
+use borrow.Author.Tests as tests
+use Rattle.model.specs.declared.Answer.{Answer}
+use Rattle.model.specs.declared.Answer.the-variants.{Count, Error}
+use Rattle.model.specs.declared.Refusal.{Refusal}
+use Rattle.model.specs.declared.Refusal.the-variants as refusals
+use Rattle.model.specs.declared.Refusal.the-variants.{LongText, ForbiddenByte, Syntax, UnknownName, OtherName, Depth, ManyNodes, NameList, Tree, TextWords, TagCounts, JointLimit, ShortBuffer, TwoStates, LongForm}
+use Rattle.model.specs.Answers.{Said, count, refusal, said, said-refusal, Checked, passes, refuses, _>>=_, _>>_, require, room-for, answer-of, buffer-after}
+use Rattle.model.specs.Sheet.{Sheet, sheet-words, sheet-of}
+use Rattle.model.specs.Compose.{swapped, joint, within-limits}
+use Rattle.model.specs.Calls.{sheet-said, swap, swap-said, swap-out, in-second, joined, join, join-said, join-out}
+use Rattle.model.proofs.SheetCode.{sheet-passes}
+use Rattle.model.proofs.SwapLaws.{swapped-words}
+use Rattle.model.proofs.Answered.{sheet-counted, sheet-refused}
+use Rattle.compose.specs.Page.{Writes}
+use Rattle.compose.specs.Parts.{Passed}
+use Rattle.sheet.proofs.Over.{refused-place}
+use Rattle.compose.specs.Limits.{first-place}
+use Rattle.compose.specs.Joins.{lent, fitted, limited, Gives}
+use Rattle.compose.proofs.PageLaws.{counted, front}
+use Rattle.compose.proofs.SheetWords.{tags-word}
+use Rattle.compose.proofs.LimitLaws.{limits-over, limits-within}
+
+-- ---- a call that lends words their room
+
+-- the same check, said otherwise
+pub gives-by : {out : List ℕ} {c d : Checked (List ℕ)} {x : Said} {y : List ℕ} → c ≡ d → Gives out d x y → Gives out c x y
+gives-by {out} {x = x} {y = y} e = subst (λ b. Gives out b x y) (sym e)
+
+module _ (out : List ℕ) {c : Checked (List ℕ)} where
+  pub gives-refusal : {n i : ℕ} → c ≡ refuses n i → Gives out c (refusal n i) out
+  unfolding answer-of buffer-after
+  gives-refusal e = record { says = rw e; leaves = rw e }
+
+  module _ (ws : List ℕ) (e : c ≡ lent ws (length out)) where
+    pub gives-short : length out < length ws → Gives out c (refusal 22 (length ws)) out
+    unfolding room-for require _>>_
+    gives-short h = gives-refusal (e ∙ rw (tests.lt-leb (length ws) (length out) h))
+
+    pub gives-words : {y : List ℕ} {i : ℕ} → length ws ≤ 16384 → length ws ≤ length out → Writes out 0 ws y i → Gives out c (count i) y
+    unfolding room-for require _>>_ answer-of buffer-after
+    gives-words few h p =
+        let f = tests.le-leb (length ws) (length out) h in
+        let n = counted p in
+        record { says = rw (e, f) (ap count (omega arith)); leaves = rw (e, f) (front p few h) }
+
+-- ---- a sheet's check
+
+pub sheet-passed : (ws : List ℕ) {s : Sheet} → sheet-of ws ≡ passes s → Passed ws s
+sheet-passed ws {s} e = let (w, r) = sheet-passes ws s .0 e in record { words = w; ranges = r }
+
+-- ---- swap
+
+module _ (sheet : List ℕ) (room : ℕ) where
+  swap-refuses : {n i : ℕ} → sheet-of sheet ≡ refuses n i → swap sheet room ≡ refuses n i
+  unfolding swap _>>=_
+  swap-refuses e = rw e
+
+  swap-lends : {s : Sheet} → sheet-of sheet ≡ passes s → swap sheet room ≡ lent (sheet-words (swapped s)) room
+  unfolding swap _>>=_
+  swap-lends e = rw e
+
+-- n is the number of words of a sheet that passed
+pub sheet-counts : (ws : List ℕ) {r : Answer} {n : ℕ} → said r ≡ sheet-said ws → r ≡ Count n → (s : Sheet) × Passed ws s
+sheet-counts ws e c = let (_, (s, p)) = sheet-counted ws e c in (s, sheet-passed ws p)
+
+module _ (sheet out : List ℕ) where
+  abbrev Swaps : Said → List ℕ → Type 0
+  Swaps x y = (x ≡ swap-said sheet out) × (y ≡ swap-out sheet out)
+
+  swaps : {x : Said} {y : List ℕ} → Gives out (swap sheet (length out)) x y → Swaps x y
+  unfolding swap-said swap-out
+  swaps g = (g .says, g .leaves)
+
+  pub swap-refused : {r : Answer} {x : Refusal} → said r ≡ sheet-said sheet → r ≡ Error x → Swaps (said-refusal x) out
+  swap-refused e c = let (i, p, f) = sheet-refused sheet e c in rw f (swaps (gives-refusal out (swap-refuses sheet (length out) p)))
+
+  -- n is the number of words of the sheet, and of its swapped sheet
+  module _ {r : Answer} {n : ℕ} (e : said r ≡ sheet-said sheet) (c : r ≡ Count n) where
+    pub swap-short : length out < n → Swaps (refusal 22 n) out
+    swap-short h =
+        let (l, (s, p)) = sheet-counted sheet e c in
+        let size : length (sheet-words (swapped s)) ≡ n = omega (arith, swapped-words s, ap length (sheet-passed sheet p .words)) in
+        rw size at (swaps (gives-short out (sheet-words (swapped s)) (swap-lends sheet (length out) p) (rw size h)))
+
+    pub swap-written : {y : List ℕ} {i : ℕ} → n ≤ length out → ((s : Sheet) → Passed sheet s → Writes out 0 (sheet-words (swapped s)) y i) → Swaps (count i) y
+    swap-written h w =
+        let (l, (s, p)) = sheet-counted sheet e c in
+        let ok = sheet-passed sheet p in
+        let size = swapped-words s in
+        let words = ap length (ok .words) in
+        swaps (gives-words out (sheet-words (swapped s)) (swap-lends sheet (length out) p) (omega (arith, ok .ranges .few-words)) (omega arith) (w s ok))
+
+-- ---- join: a joint sheet with few states
+
+module _ (j : Sheet) (out : List ℕ) where
+  -- n is the number of its words, up to one more than the most
+  module _ {n : ℕ} (e : n ≡ min (length (sheet-words j)) 16385) where
+    pub fitted-over : 16384 < n → Gives out (fitted j (length out)) (refusal 21 6) out
+    unfolding require _>>_
+    fitted-over h = gives-refusal out (rw (tests.lt-leb (length (sheet-words j)) 16384 (omega arith)))
+
+    module _ (h : n ≤ 16384) where
+      size : length (sheet-words j) ≡ n
+      size = omega arith
+
+      fits : fitted j (length out) ≡ lent (sheet-words j) (length out)
+      unfolding require _>>_
+      fits = rw (tests.le-leb (length (sheet-words j)) 16384 (omega (arith, size)))
+
+      pub fitted-short : length out < n → Gives out (fitted j (length out)) (refusal 22 n) out
+      fitted-short l = subst (λ (m : ℕ). Gives out (fitted j (length out)) (refusal 22 m) out) size (gives-short out (sheet-words j) fits (rw size l))
+
+      pub fitted-words : {y : List ℕ} {i : ℕ} → n ≤ length out → Writes out 0 (sheet-words j) y i → Gives out (fitted j (length out)) (count i) y
+      fitted-words l w = gives-words out (sheet-words j) fits (omega (arith, size)) (omega (arith, size)) w
+
+  pub limited-states : 64 < j .states → Gives out (limited j (length out)) (refusal 21 1) out
+  unfolding within-limits require _>>_
+  limited-states h = gives-refusal out (rw (tests.lt-leb (j .states) 64 h))
+
+  -- k is the first limit that its rules exceed
+  module _ (few : j .states ≤ 64) {k : ℕ} (e : k ≡ first-place (j .rules)) where
+    pub limited-over : k < 6 → Gives out (limited j (length out)) (refusal 21 k) out
+    unfolding _>>_
+    limited-over h = let h′ : first-place (j .rules) < 6 = omega arith in gives-refusal out (rw (limits-over j few h′, e))
+
+    pub limited-within : k ≡ 6 → limited j (length out) ≡ fitted j (length out)
+    limited-within h = ap (λ (c : Checked (Unit {0})). c >> lent (sheet-words j) (length out)) (limits-within j few (sym e ∙ h))
+
+-- ---- join: its checks in their order
+
+module _ (first second : List ℕ) (room : ℕ) where
+  join-first : {n i : ℕ} → sheet-of first ≡ refuses n i → join first second room ≡ refuses n i
+  unfolding join joined _>>=_
+  join-first e = rw e
+
+  module _ {s : Sheet} (p : sheet-of first ≡ passes s) where
+    join-second : {n i : ℕ} → sheet-of second ≡ refuses n i → join first second room ≡ refuses n (i + 20000)
+    unfolding join joined in-second _>>=_
+    join-second e = rw (p, e)
+
+    module _ {t : Sheet} (q : sheet-of second ≡ passes t) where
+      join-tags : s .tags ≢ t .tags → join first second room ≡ refuses 20 (t .tags)
+      unfolding join joined in-second _>>=_ _>>_ require
+      join-tags h = rw (p, q, tests.ne-eqb (s .tags) (t .tags) h)
+
+      join-checks : s .tags ≡ t .tags → join first second room ≡ limited (joint s t) room
+      unfolding join joined in-second _>>=_ _>>_ require
+      join-checks h = rw (p, q, tests.eq-eqb (s .tags) (t .tags) h) (go (within-limits (joint s t)))
+        where
+          go : (c : Checked (Unit {0})) → ((c >> passes (joint s t)) >>= λ j. lent (sheet-words j) room) ≡ c >> lent (sheet-words (joint s t)) room
+          go (passes u) = refl
+          go (refuses n i) = refl
+
+module _ (first second out : List ℕ) where
+  abbrev Joined : Said → List ℕ → Type 0
+  Joined x y = (x ≡ join-said first second out) × (y ≡ join-out first second out)
+
+  joins : {x : Said} {y : List ℕ} → Gives out (join first second (length out)) x y → Joined x y
+  unfolding join-said join-out
+  joins g = (g .says, g .leaves)
+
+  pub first-refused : {r : Answer} {x : Refusal} → said r ≡ sheet-said first → r ≡ Error x → Joined (said-refusal x) out
+  first-refused e c = let (i, p, f) = sheet-refused first e c in rw f (joins (gives-refusal out (join-first first second (length out) p)))
+
+  module _ {q : Answer} {m : ℕ} (d : said q ≡ sheet-said first) (b : q ≡ Count m) where
+    pub second-refused : (z : Refusal) {r : Answer} {x : Refusal} → said r ≡ sheet-said second → r ≡ Error x
+        → ((i : ℕ) → said-refusal x ≡ refusal 9 i → said-refusal z ≡ refusal 9 (i + 20000)) → Joined (said-refusal z) out
+    second-refused z e c h =
+        let (_, (s, p)) = sheet-counted first d b in
+        let (i, r, f) = sheet-refused second e c in
+        rw (h i f) (joins (gives-refusal out (join-second first second (length out) p r)))
+
+    module _ {r : Answer} {n : ℕ} (e : said r ≡ sheet-said second) (c : r ≡ Count n) where
+      pub tags-refused : getD first 4 0 ≢ getD second 4 0 → Joined (refusal 20 (getD second 4 0)) out
+      tags-refused h =
+          let (_, (s, p)) = sheet-counted first d b in
+          let (_, (t, q)) = sheet-counted second e c in
+          let g = tags-word (sheet-passed first p) in
+          let k = tags-word (sheet-passed second q) in
+          rw k (joins (gives-refusal out (join-tags first second (length out) p q (λ f. h (g ∙ f ∙ sym k)))))
+
+      pub join-written : {x : Said} {y : List ℕ} → getD first 4 0 ≡ getD second 4 0
+          → ((s t : Sheet) → Passed first s → Passed second t → Gives out (limited (joint s t) (length out)) x y) → Joined x y
+      join-written h w =
+          let (_, (s, p)) = sheet-counted first d b in
+          let (_, (t, q)) = sheet-counted second e c in
+          let ps = sheet-passed first p in
+          let pt = sheet-passed second q in
+          joins (gives-by (join-checks first second (length out) p q (sym (tags-word ps) ∙ h ∙ tags-word pt)) (w s t ps pt))
+
+-- ---- join: a refusal of T's words
+
+-- refusal 9 is of a sheet
+pub nine-sheet : (x : Refusal) {i : ℕ} → said-refusal x ≡ refusal 9 i → x ≡ refusals.Sheet i
+unfolding said-refusal
+nine-sheet LongText e = cc
+nine-sheet (ForbiddenByte k) e = cc
+nine-sheet (Syntax k) e = cc
+nine-sheet (UnknownName k) e = cc
+nine-sheet (OtherName k) e = cc
+nine-sheet (Depth k) e = cc
+nine-sheet (ManyNodes k) e = cc
+nine-sheet (NameList k) e = cc
+nine-sheet (refusals.Sheet k) e = cc
+nine-sheet (Tree k) e = cc
+nine-sheet (TextWords k) e = cc
+nine-sheet (TagCounts k) e = cc
+nine-sheet (JointLimit k) e = cc
+nine-sheet (ShortBuffer k) e = cc
+nine-sheet (TwoStates k) e = cc
+nine-sheet (LongForm k) e = cc
+
+-- at the place that the code finds
+pub nine-place : {x : Refusal} {i j : ℕ} → said-refusal x ≡ refusal 9 i → x ≡ refusals.Sheet j → j ≡ i
+unfolding said-refusal
+nine-place e f = let g : refusal 9 _ ≡ refusal 9 _ = sym (ap said-refusal f) ∙ e in cc
+
+-- and its place is at most the most words of a sheet
+pub second-place : (ws : List ℕ) {r : Answer} {x : Refusal} → said r ≡ sheet-said ws → r ≡ Error x → (i : ℕ) × (said-refusal x ≡ refusal 9 i) × (i ≤ 16384)
+second-place ws e c = let (i, p, f) = sheet-refused ws e c in (i, f, refused-place ws p)
