@@ -1,6 +1,5 @@
 // Runs the name list check, read, the tree check and write at the limits that document 01 sets. It prints a line for each try: what
 // was tried, then `count N` or `error NUMBER PLACE`; and here and there a line with the lent buffer.
-mod say;
 
 // the names that the texts are read with
 const LIST: [u8; 5] = *b"a\nct\n";

@@ -1,16 +1,16 @@
--- `text_limits::say::words` stays within the buffer, and ends.
+-- `say::words` stays within the buffer, and ends.
 use Prim.Native.Nat.{_-_, _≤_}
 use native.Mathlib.Omega.{arith}
 use borrow.Author.Needs.{needs}
 use lib.ListN.{length}
-use Rattle.text_limits.proofs.say.words.Statement.{statement}
-use Rattle.text_limits.proofs.say.words.Tie as tie
+use Rattle.say.proofs.words.Statement.{statement}
+use Rattle.say.proofs.words.Tie as tie
 
 abbrev Inv-loop : tie.InvT-loop
-Inv-loop what buffer i₀ t4 i = i ≤ length buffer
+Inv-loop what buffer i₀ i = i ≤ length buffer
 
 abbrev μ-loop : tie.MeasureT-loop
-μ-loop what buffer i₀ t4 i = length buffer - i
+μ-loop what buffer i₀ i = length buffer - i
 
 pub words-spec : {M : Type 1} → statement M
 words-spec =
@@ -27,5 +27,4 @@ words-spec =
     (λ c. omega arith)
     (λ c. omega arith)
     (λ c. search needs)
-    (λ c κs. search needs)
     (λ c. search needs))
