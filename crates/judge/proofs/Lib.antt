@@ -17,3 +17,4 @@ mod ContentLaws
 mod ElementLaws
 mod RunLaws
 mod JudgeLaws
+pub mod Claims
