@@ -7,7 +7,7 @@ use mathlib.Core.Option.{none, some}
 use Prim.Native.Nat.{ℕ, zero, suc, _+_, _-_, _^_, _≤_, _<_}
 use native.Mathlib.Omega.{arith}
 use lib.Dec.{eqb, eqb·zero-suc}
-use lib.ListN.{length, getD, drop}
+use lib.ListN.{length, getD, take, drop}
 use borrow.Author.Tests.{lt-ltb, le-ltb}
 use Rattle.model.specs.Lists.{has, only}
 use Rattle.model.specs.Tree.{symbol-at, size-at}
@@ -20,8 +20,12 @@ use Rattle.bits.proofs.SetLaws.{none-stands, stands-none, stands-some}
 use Rattle.judge.specs.Parts.{StateWords, states-of}
 use Rattle.judge.specs.Index.{rules-of, OneAt, TwoAt}
 use Rattle.judge.specs.Node.{Shaped, Small, words-between, node-targets, node-looks}
+use Rattle.judge.specs.Gathered.{Gathered}
 use Rattle.judge.specs.Found.{Finds}
+use Rattle.judge.specs.declared.node.Children.{Children}
+use Rattle.judge.specs.declared.node.Children.the-variants.{Number}
 use Rattle.judge.proofs.KindLaws.{number-of, along-length}
+use Rattle.judge.proofs.GatherLaws.{all-gathered}
 
 -- ---- the children's state words
 
@@ -51,11 +55,13 @@ each-word (suc x ∷ ws) (l, s) f zero h = (omega arith, l)
 each-word (suc x ∷ ws) (l, s) f (suc k) h = each-word ws s (rw (eqb·zero-suc x) at f) k (omega arith)
 
 pub children-words : {tree : List ℕ} (states : List ℕ) → Shaped tree (length states) → (first end : ℕ) → Small (drop first states) → end ≤ length states
-    → {ws : List ℕ} → ws ≡ words-between tree states first end → has (words-between tree states first end) 0 ≡ false → StateWords ws
-children-words {tree} states t first end small room e f = rw e (record {
-  each = each-word (words-between tree states first end) (words-small (end - first) 0 (drop first (items tree)) (drop first states) small) f;
-  few = omega (arith, words-few (end - first) 0 (drop first (items tree)) (drop first states), t .few);
-})
+    → {children : Children} {n : ℕ} (words : List ℕ) → Gathered children (words-between tree states first end) words → children ≡ Number n → StateWords (take n words)
+children-words {tree} states t first end small room words got all =
+    let (same, _, full) = all-gathered (words-between tree states first end) words got all in
+    rw same (record {
+      each = each-word (words-between tree states first end) (words-small (end - first) 0 (drop first (items tree)) (drop first states) small) full;
+      few = omega (arith, words-few (end - first) 0 (drop first (items tree)) (drop first states), t .few);
+    })
 
 -- all have states, or one has none
 pub states-some : (ws : List ℕ) → has ws 0 ≡ false → child-states ws ≡ some (states-of ws)
@@ -87,10 +93,13 @@ module _ (R : List Rule) (a : ℕ) (ws : List ℕ) where
   element-stateless f = rw (states-none ws f) (record { reached = none-stands; number = refl; few = omega arith })
 
   -- all have one, and these words are gathered
-  module _ {gathered : List ℕ} (same : gathered ≡ ws) (f : has ws 0 ≡ false) {inner looks : ℕ}
-      (h : Finds (2 ^ 42) inner looks (content-targets R (states-of gathered)) (unless-one (states-of gathered) (tries R (states-of gathered)))) where
+  module _ {children : Children} {n : ℕ} (words : List ℕ) (got : Gathered children ws words) (all : children ≡ Number n) {inner looks : ℕ}
+      (h : Finds (2 ^ 42) inner looks (content-targets R (states-of (take n words))) (unless-one (states-of (take n words)) (tries R (states-of (take n words))))) where
+    f : has ws 0 ≡ false
+    f = all-gathered ws words got all .2
+
     g : Finds (2 ^ 42) inner looks (content-targets R (states-of ws)) (unless-one (states-of ws) (tries R (states-of ws)))
-    g = rw same at h
+    g = rw (all-gathered ws words got all .0) at h
 
     -- the content reaches no state
     pub element-unreached : inner ≡ 0 → Finds (2 ^ 43) 0 looks (element-targets R a (child-states ws)) (element-looks R (child-states ws))
