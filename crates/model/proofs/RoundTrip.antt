@@ -31,11 +31,11 @@ length-without (a ∷ b ∷ c ∷ []) = refl
 length-without (a ∷ b ∷ c ∷ d ∷ l) = let h = length-without l in omega arith
 
 -- a document of one element has its size and its words
-one-size : (e : Element) → sizeD (e · ε) ≡ size e
+pub one-size : (e : Element) → sizeD (e · ε) ≡ size e
 unfolding sizeD
 one-size e = omega arith
 
-one-words : (e : Element) → wordsD (e · ε) ≡ words e
+pub one-words : (e : Element) → wordsD (e · ε) ≡ words e
 unfolding wordsD
 one-words e = append-nil (words e)
 

@@ -1,0 +1,15 @@
+-- `formcheck_verdict` meets its contract: the answer of the call, in numbers.
+use borrow.Author.Needs.{needs}
+use Rattle.capi.proofs.LentLaws.{handed}
+use Rattle.capi.proofs.formcheck_verdict.Statement.{statement}
+use Rattle.capi.proofs.formcheck_verdict.Tie as tie
+
+pub formcheck-verdict-spec : {M : Type 1} → statement M
+formcheck-verdict-spec =
+    tie.close
+    (tie.spec
+    (λ c κs. search needs)
+    (λ c κs. search needs)
+    (λ c κs. search needs)
+    (λ c. search needs)
+    (λ c. handed (c .before .before .before .before .of-judgement .ensures) (c .before .before .before .before .before .check .ensures) _ (c .before .before .hand-over .ensures)))
