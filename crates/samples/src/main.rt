@@ -1,14 +1,10 @@
 // Judges published documents by sheets made for them. It prints a line for each: the document, then the verdict as formcheck prints it.
 // data/SOURCES.txt says where each document comes from.
-ghost use Rattle.io.specs.Counts.{Counts};
-
 mod sheets;
 
 use model::Answer;
 use model::Judgement;
 use sheets::MOST_WORDS;
-
-const STDOUT: i32 = 1;
 
 const MOST_NODES: usize = 4096;
 
@@ -16,37 +12,6 @@ const TREE_WORDS: usize = 16384;
 
 // enough for each of the files
 const MOST_BYTES: usize = 4096;
-
-fn say(verdict: &[u8], first: u64, second: u64) {
-    io::write_all(STDOUT, verdict);
-    io::print_decimal(STDOUT, first);
-    io::write_all(STDOUT, b" ");
-    io::print_decimal(STDOUT, second);
-    io::write_all(STDOUT, b"\n");
-}
-
-fn say_judgement(judgement: Judgement) {
-    let numbers = answers::of_judgement(judgement);
-    let first = numbers.first;
-    let second = numbers.second;
-    let kind = numbers.kind;
-    match kind {
-        1 => say(b"accepted ", first, second),
-        2 => say(b"refused ", first, second),
-        3 => say(b"stuck ", first, second),
-        _ => say(b"error ", first, second),
-    }
-}
-
-// The bytes of a file, to the front of the buffer.
-fn load(path: &[u8], buffer: &mut [u8]) -> usize
-    ensures { λ r. ⌜ Counts r (now (buffer .exit)) ⌝ }
-{
-    let file = os::open_read(path);
-    let n = io::read_full(file, buffer);
-    libc::close(file);
-    n
-}
 
 fn judge_form(list: &[u8], text: &[u8], sheet: &[u32]) -> Judgement {
     let mut tree = [0u32; TREE_WORDS];
@@ -66,12 +31,10 @@ fn judge_form(list: &[u8], text: &[u8], sheet: &[u32]) -> Judgement {
 fn sample(form: &[u8], names: &[u8], sheet: &[u32], words: usize) {
     let mut list = [0u8; MOST_BYTES];
     let mut text = [0u8; MOST_BYTES];
-    let m = load(names, &mut list);
-    let n = load(form, &mut text);
-    io::write_all(STDOUT, form);
-    io::write_all(STDOUT, b": ");
+    let m = files::front(names, &mut list);
+    let n = files::front(form, &mut text);
     if words <= sheet.len() {
-        say_judgement(judge_form(&list[..m], &text[..n], &sheet[..words]));
+        say::judgement(form, judge_form(&list[..m], &text[..n], &sheet[..words]));
     }
 }
 

@@ -46,15 +46,20 @@ pub fn answer(what: &[u8], a: Answer) {
     }
 }
 
-// What was judged, and the verdict with its state or node and its looks, or `error NUMBER PLACE`.
-pub fn judgement(what: &[u8], j: Judgement) {
-    tried(what);
+// The verdict with its state or node and its looks, or `error NUMBER PLACE`.
+pub fn verdict(j: Judgement) {
     match j {
         Judgement::Accepted(state, looks) => pair(b"accepted", state as u64, looks as u64),
         Judgement::Refused(state, looks) => pair(b"refused", state as u64, looks as u64),
         Judgement::Stuck(node, looks) => pair(b"stuck", node as u64, looks as u64),
         Judgement::Error(refusal) => error(refusal),
     }
+}
+
+// What was judged, and the verdict.
+pub fn judgement(what: &[u8], j: Judgement) {
+    tried(what);
+    verdict(j);
 }
 
 fn word(w: u32) {
