@@ -10,8 +10,8 @@
 
 #include "formcheck.h"
 
-/* One byte more than the longest file that passes, a sheet's, so that a longer one is seen to be longer. */
-enum { MOST_BYTES = 4 * FORMCHECK_SHEET_WORDS + 1 };
+/* One word more than the longest file that passes, a sheet's: the verdict on a longer file is the same. */
+enum { MOST_BYTES = 4 * (FORMCHECK_SHEET_WORDS + 1) };
 
 static uint8_t list[MOST_BYTES], file[MOST_BYTES], text[MOST_BYTES];
 static uint32_t sheet[FORMCHECK_SHEET_WORDS], tree[FORMCHECK_TREE_WORDS], states[FORMCHECK_STATE_WORDS];

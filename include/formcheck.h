@@ -71,6 +71,14 @@ uint32_t formcheck_sheet_from_file(const uint8_t *file, size_t file_bytes, uint3
 uint32_t formcheck_judge(const uint32_t *sheet, size_t sheet_words, const uint32_t *tree, size_t tree_words, uint32_t *states,
                          size_t state_words, uint64_t *answer, size_t answer_words);
 
+/* The swapped sheet, to the front of `out`: the number of its words, or 9 or 22. */
+uint32_t formcheck_swap(const uint32_t *sheet, size_t sheet_words, uint32_t *out, size_t out_words, uint64_t *answer,
+                        size_t answer_words);
+
+/* The joint sheet of two, to the front of `out`: the number of its words, or 9, 20, 21 or 22. */
+uint32_t formcheck_join(const uint32_t *first, size_t first_words, const uint32_t *second, size_t second_words, uint32_t *out,
+                        size_t out_words, uint64_t *answer, size_t answer_words);
+
 /* What the program formcheck says of a name list, the bytes of a sheet's file and a form. */
 uint32_t formcheck_verdict(const uint8_t *list, size_t list_bytes, const uint8_t *file, size_t file_bytes, const uint8_t *text,
                            size_t text_bytes, uint64_t *answer, size_t answer_words);

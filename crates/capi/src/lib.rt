@@ -2,7 +2,7 @@
 // the kind and the two values over in a lent array of 64-bit words. An array that is too short for them gets as many as fit, so a
 // caller who lends none loses the values and nothing else.
 ghost use mathlib.Core.Path.{_≡_};
-ghost use Rattle.model.specs.Calls.{names-said, read-said, read-tree, tree-said, write-said, write-out, sheet-said, from-file-said, from-file-sheet, judge-said, judge-states, formcheck};
+ghost use Rattle.model.specs.Calls.{names-said, read-said, read-tree, tree-said, write-said, write-out, sheet-said, from-file-said, from-file-sheet, judge-said, judge-states, swap-said, swap-out, join-said, join-out, formcheck};
 ghost use Rattle.answers.specs.Numbers.{kind-of};
 ghost use Rattle.capi.specs.Lent.{filled, answer-after};
 use answers::Numbers;
@@ -116,6 +116,31 @@ pub extern "C" fn formcheck_judge(
     ensures states { λ r. ⌜ now (states .exit) ≡ judge-states (now (sheet .entry)) (now (tree .entry)) (now (states .entry)) ⌝ }
 {
     hand_over(of_judgement(judge::judge(sheet, tree, states)), answer)
+}
+
+// The swapped sheet, to the front of `out`: the number of its words, or 9 or 22.
+#[no_mangle]
+pub extern "C" fn formcheck_swap(sheet: &[u32], out: &mut [u32], answer: &mut [u64]) -> u32
+    ensures kind { λ r. ⌜ r ≡ kind-of (swap-said (now (sheet .entry)) (now (out .entry))) ⌝ }
+    ensures answer { λ r. ⌜ now (answer .exit) ≡ answer-after (now (answer .entry)) (swap-said (now (sheet .entry)) (now (out .entry))) ⌝ }
+    ensures out { λ r. ⌜ now (out .exit) ≡ swap-out (now (sheet .entry)) (now (out .entry)) ⌝ }
+{
+    hand_over(of_answer(compose::swap(sheet, out)), answer)
+}
+
+// The joint sheet of two, to the front of `out`: the number of its words, or 9, 20, 21 or 22.
+#[no_mangle]
+pub extern "C" fn formcheck_join(
+    first: &[u32],
+    second: &[u32],
+    out: &mut [u32],
+    answer: &mut [u64],
+) -> u32
+    ensures kind { λ r. ⌜ r ≡ kind-of (join-said (now (first .entry)) (now (second .entry)) (now (out .entry))) ⌝ }
+    ensures answer { λ r. ⌜ now (answer .exit) ≡ answer-after (now (answer .entry)) (join-said (now (first .entry)) (now (second .entry)) (now (out .entry))) ⌝ }
+    ensures out { λ r. ⌜ now (out .exit) ≡ join-out (now (first .entry)) (now (second .entry)) (now (out .entry)) ⌝ }
+{
+    hand_over(of_answer(compose::join(first, second, out)), answer)
 }
 
 // What formcheck says of a name list, the bytes of a sheet's file and a form.

@@ -33,5 +33,6 @@ pub mod ReadSteps
 pub mod ReadGood
 pub mod RoundTrip
 pub mod Examples
+pub mod Cut
 pub mod Cases
 pub mod Refusals

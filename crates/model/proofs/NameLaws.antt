@@ -11,7 +11,7 @@ use lib.ListN.{length, getD, take, drop}
 use lib.Seq.{split-at, length-take-le}
 use borrow.Author.Tests.{eqb-true, leb-true, ltb-true}
 use Rattle.model.specs.Answers.{passes, refuses}
-use Rattle.model.specs.Bytes.{is-name, same-bytes}
+use Rattle.model.specs.Bytes.{line-feed, is-name, same-bytes}
 use Rattle.model.specs.Names.{lines, prepend, bare, number-from, tag-of, name-of, good-line, lines-checked, names-of}
 use Rattle.model.proofs.Tests.{Yes, never, and-left, and-right, and-yes, same, eqb-yes}
 use Rattle.model.proofs.CheckLaws.{passes-inj, refuses≢passes}
@@ -107,10 +107,11 @@ lines-some (b ∷ s) g e = by (eqb b 10)
 pub record GoodLine (all : List (List ℕ)) (k : ℕ) (l : List ℕ) : Type 0 where
   pub few : k < 64
   pub short : length (bare l) ≤ 24
+  pub ended : Yes (eqb (getD l (length l - 1) 0) line-feed)
   pub name : Yes (is-name (bare l))
   pub new : number-from 0 (bare l) (take k all) ≡ 0
 
-good-line-is : (all : List (List ℕ)) (k : ℕ) (l : List ℕ) → Yes (good-line all k l) → GoodLine all k l
+pub good-line-is : (all : List (List ℕ)) (k : ℕ) (l : List ℕ) → Yes (good-line all k l) → GoodLine all k l
 unfolding good-line
 good-line-is all k l h =
     let a = ltb k 64 in
@@ -119,8 +120,15 @@ good-line-is all k l h =
     let d = is-name (bare l) in
     let f = eqb (number-from 0 (bare l) (take k all)) 0 in
     let h₁ = and-right a (b && (c && (d && f))) h in
-    let h₂ = and-right c (d && f) (and-right b (c && (d && f)) h₁) in
-    record { few = ltb-true k 64 (and-left a _ h); short = leb-true _ 24 (and-left b _ h₁); name = and-left d f h₂; new = eqb-true _ 0 (and-right d f h₂) }
+    let h₂ = and-right b (c && (d && f)) h₁ in
+    let h₃ = and-right c (d && f) h₂ in
+    record {
+      few = ltb-true k 64 (and-left a _ h);
+      short = leb-true _ 24 (and-left b _ h₁);
+      ended = and-left c _ h₂;
+      name = and-left d f h₃;
+      new = eqb-true _ 0 (and-right d f h₃);
+    }
 
 module _ (list : List ℕ) (g : ℕ) (checked : names-of list ≡ passes g) where
   facts : (g ≡ 0 + length (lines list)) × AllGood (lines list) 0 (lines list)

@@ -41,7 +41,7 @@ one-words e = append-nil (words e)
 
 -- ---- the checks of a call that passes
 
-room-passes : (needed room : ℕ) → needed ≤ room → room-for needed room ≡ passes tt
+pub room-passes : (needed room : ℕ) → needed ≤ room → room-for needed room ≡ passes tt
 unfolding room-for
 room-passes needed room h = require-is (leb needed room) 22 needed .1 (le-leb needed room h)
 

@@ -6,12 +6,12 @@ use Prim.Native.Nat.{ℕ, _*_, _≤_}
 use native.Mathlib.Omega.{arith}
 use lib.ListN.{length, getD, take, drop}
 use lib.Seq.{take-at}
-use borrow.Author.Tests.{le-leb, ne-eqb}
+use borrow.Author.Tests.{ne-eqb}
 use Rattle.model.specs.declared.Answer.{Answer}
 use Rattle.model.specs.declared.Answer.the-variants.{Count, Error}
 use Rattle.model.specs.declared.Refusal.{Refusal}
-use Rattle.model.specs.Answers.{Said, refusal, said-refusal, said, Checked, passes, refuses, _>>=_, _>>_, require, room-for, buffer-after}
-use Rattle.model.specs.Tree.{Element, Document, Over, size, sizeD, wordsD, tree-of}
+use Rattle.model.specs.Answers.{refusal, said-refusal, said, Checked, passes, refuses, _>>=_, _>>_, require, room-for, buffer-after}
+use Rattle.model.specs.Tree.{Element, Document, size, sizeD, wordsD, tree-of}
 use Rattle.model.specs.Sheet.{Sheet, sheet-of, sheet-words, set-words, file-words}
 use Rattle.model.specs.Names.{names-of}
 use Rattle.model.specs.Text.{form-of}
@@ -23,15 +23,11 @@ use Rattle.model.proofs.SheetCode.{sheet-passes}
 use Rattle.model.proofs.TreeLaws.{length-wordsD, tree-passes}
 use Rattle.model.proofs.NameLaws.{few-names}
 use Rattle.model.proofs.ReadGood.{read-good}
-use Rattle.model.proofs.RoundTrip.{one-size, one-words}
+use Rattle.model.proofs.RoundTrip.{one-size, one-words, room-passes}
 use Rattle.model.proofs.Answered as answered
 use Rattle.judge.specs.Index.{passed, sheet-in, Passes}
 
 -- ---- a buffer with enough room refuses nothing
-
-room-passes : (needed room : ℕ) → needed ≤ room → room-for needed room ≡ passes tt
-unfolding room-for require
-room-passes needed room h = rw (le-leb needed room h)
 
 -- where all that follows a check passes, a refusal is that check's
 first-refuses : {A B : Type 0} (c : Checked A) (f : A → Checked B) {n i : ℕ} → ((a : A) → c ≡ passes a → (b : B) × (f a ≡ passes b))
@@ -124,7 +120,6 @@ module _ (list file s : List ℕ) where
 -- a sheet that passes, at the front of the buffer that its file was read to
 pub record SheetIn (file buffer : List ℕ) (n : ℕ) : Type 0 where
   pub front : take n buffer ≡ file-words file
-  pub words : length (file-words file) ≡ n
   pub few : n ≤ 16384
   pub passes-there : Passes (take n buffer)
 
@@ -142,7 +137,6 @@ sheet-counted file buffer {after} {n = n} (e, ea) c =
     let (coded, ranges) = sheet-passes (file-words file) t .0 ok in
     record {
       front = front;
-      words = ap length same ∙ k;
       few = omega (arith, ranges .few-words, ap length coded, ap length same);
       passes-there = record { as-sheet = rw (front, ok) };
     }
