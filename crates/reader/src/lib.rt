@@ -467,21 +467,10 @@ fn text_block(text: &[u8], at: usize) -> bool
     let mut all = true;
     let mut i = 0;
     while i < BLOCK {
-        all = all & text_byte(text[at + i]);
+        all = all & chars::in_text(text[at + i]);
         i += 1;
     }
     all
-}
-
-// Whether a text may go on with a byte: white, or from ! to ~ but none of & < >. No table is read, so that 16 are tested together.
-fn text_byte(byte: u8) -> bool
-    ensures { λ r. ⌜ r ≡ text-byte byte ⌝ }
-{
-    ((byte == 9) | (byte == 10) | (byte == 13) | (32 <= byte))
-        & (byte <= 126)
-        & (byte != b'&')
-        & (byte != b'<')
-        & (byte != b'>')
 }
 
 // The offset behind the last byte, from `at` up to `stop`, that is not white.
