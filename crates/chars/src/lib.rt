@@ -1,6 +1,7 @@
-// The class of a byte, looked up in a constant table.
+// The class of a byte, looked up in a constant table; and tests of a byte by comparisons.
 ghost use mathlib.Core.Path.{_≡_};
-ghost use Rattle.model.specs.Bytes.{class-number, class-of};
+ghost use Rattle.model.specs.Bytes.{white, class-number, is, class-of, digit-byte};
+ghost use Rattle.model.specs.Written.{text-byte};
 ghost use Rattle.chars.specs.Table.{table};
 
 pub const WHITE: u8 = 0;
@@ -33,6 +34,33 @@ pub fn classes() -> [u8; 256]
 {
     CLASSES
 }
+
+// ---- by comparisons and not by the table, so that a loop can test many bytes together
+
+pub fn is_white(byte: u8) -> bool
+    ensures { λ r. ⌜ r ≡ is (class-of byte) white ⌝ }
+{
+    (byte == b' ') | (byte == b'\t') | (byte == b'\n') | (byte == b'\r')
+}
+
+pub fn is_digit(byte: u8) -> bool
+    ensures { λ r. ⌜ r ≡ digit-byte byte ⌝ }
+{
+    (b'0' <= byte) & (byte <= b'9')
+}
+
+// Whether a text may hold the byte: white, or from ! to ~ but none of & < >.
+pub fn in_text(byte: u8) -> bool
+    ensures { λ r. ⌜ r ≡ text-byte byte ⌝ }
+{
+    ((byte == b'\t') | (byte == b'\n') | (byte == b'\r') | (b' ' <= byte))
+        & (byte <= b'~')
+        & (byte != b'&')
+        & (byte != b'<')
+        & (byte != b'>')
+}
+
+// ---- the table
 
 // The class of each byte value.
 pub const CLASSES: [u8; 256] = [

@@ -69,7 +69,7 @@ first-at k name (x ∷ xs) l ys z e = by (same-bytes (bare x) name) z (λ q. fir
     by false z ih = ih z ∙ omega arith
 
 -- a number that is not 0 is that of a line with the name
-number-at : (k : ℕ) (name : List ℕ) (ls : List (List ℕ)) → number-from k name ls ≢ 0 → (j : ℕ) × (j < length ls) × (number-from k name ls ≡ suc (k + j)) × (bare (getD ls j []) ≡ name)
+pub number-at : (k : ℕ) (name : List ℕ) (ls : List (List ℕ)) → number-from k name ls ≢ 0 → (j : ℕ) × (j < length ls) × (number-from k name ls ≡ suc (k + j)) × (bare (getD ls j []) ≡ name)
 unfolding number-from
 number-at k name [] h = absurd (h refl)
 number-at k name (l ∷ ls) h = by (same-bytes (bare l) name) refl h (number-at (suc k) name ls)

@@ -1,23 +1,25 @@
 -- The index of a name list: how it is written, the lines that it bounds, and, of a checked list, where each name lies.
-use mathlib.Core.Path.{_≡_, refl, sym, ap, ap₂, _∙_}
-use mathlib.Core.Bool.{Bool, true, false}
+use mathlib.Core.Path.{_≡_, refl, sym, ap, _∙_}
+use mathlib.Core.Bool.{Bool, true, false, _||_}
 use mathlib.Core.List.{List, [], _∷_, map}
-use Prim.Native.Nat.{ℕ, zero, suc, _+_, _-_, _≤_, _<_, min}
+use Prim.Native.Nat.{ℕ, suc, _+_, _-_, _≤_, _<_}
 use native.Mathlib.Nat.{zero-add}
 use native.Mathlib.Numerals.{add-one}
 use native.Mathlib.Omega.{arith}
+use lib.Dec.{eqb, ltb}
 use lib.ListN.{length, getD, take, drop, set, length-map, List·getD-append}
-use lib.Seq.{drop-cons, take-all, sets, sets-eq}
+use lib.Seq.{sets, sets-eq}
+use borrow.Author.Tests.{ne-eqb, le-ltb, ltb-false}
 use Rattle.model.specs.Answers.{passes}
-use Rattle.model.specs.Bytes.{same-bytes}
 use Rattle.model.specs.Lists.{from, numbers}
-use Rattle.model.specs.Names.{lines, bare, name-of, tag-of, number-from, names-of}
+use Rattle.model.specs.Names.{lines, bare, name-of, names-of}
+use Rattle.model.proofs.Tests.{never, eqb-no}
 use Rattle.model.proofs.ListLaws.{length-from}
 use Rattle.model.proofs.NameLaws.{few-names, lines-counted}
 use Rattle.chars.proofs.TableLaws.{mapped-at}
-use Rattle.names.specs.Lines.{line, start-of, line-count, line-starts, Indexed, part, parts}
+use Rattle.names.specs.Lines.{line, start-of, line-count, line-starts, Indexed, no-tag, name-by}
 use Rattle.names.proofs.Parts.{part-bare}
-use Rattle.names.proofs.LineLaws.{Cut, Begins, cut-at, line-at, number-here, number-later, number-none}
+use Rattle.names.proofs.LineLaws.{Cut, Begins, cut-at, line-at}
 
 -- the numbers from k up to n
 from-next : (n k : ℕ) → k < n → from (n - k) k ≡ k ∷ from (n - (k + 1)) (k + 1)
@@ -47,43 +49,47 @@ indexed list before starts h e = record {
       (mapped-at (start-of (lines list)) (line-count list + 1) 0 k (omega arith) ∙ rw zero-add);
 }
 
--- ---- the number of a name among the parts from k on, up to part n
-
-module _ (list starts name : List ℕ) (n k : ℕ) where
-  parts-next : k < n → map (part list starts) (from (n - k) k) ≡ part list starts k ∷ map (part list starts) (from (n - (k + 1)) (k + 1))
-  parts-next h = rw (from-next n k h)
-
-  module _ {same : Bool} (h : k < n) (tested : same ≡ same-bytes (bare (part list starts k)) name) where
-    pub found-here : same ≡ true → number-from k name (map (part list starts) (from (n - k) k)) ≡ k + 1
-    found-here = number-here k name (parts-next h) tested
-
-    pub found-later : same ≡ false → number-from k name (map (part list starts) (from (n - k) k)) ≡ number-from (k + 1) name (map (part list starts) (from (n - (k + 1)) (k + 1)))
-    found-later = number-later k name (parts-next h) tested
-
-  pub found-none : n ≤ k → number-from k name (map (part list starts) (from (n - k) k)) ≡ 0
-  unfolding from
-  found-none h = let m : n - k ≡ 0 = omega arith in number-none k name (rw m)
-
 -- ---- the lines that it bounds
+
+-- the name of a tag, by any offsets
+or-none : (a b : Bool) → (a || b) ≡ false → (a ≡ false) × (b ≡ false)
+or-none true b e = never (sym e)
+or-none false b e = (refl, e)
+
+pub is-tag : (a : ℕ) → no-tag a ≡ false → (1 ≤ a) × (a ≤ 64)
+is-tag a e =
+    let (p, q) = or-none (eqb a 0) (ltb 64 a) e in
+    let n = eqb-no {m = a} {n = 0} p in
+    (omega (arith, n), ltb-false 64 a q)
+
+pub tag-is : (a : ℕ) → 1 ≤ a → a ≤ 64 → no-tag a ≡ false
+tag-is a some few = rw (ne-eqb a 0 (λ z. omega arith), le-ltb 64 a few)
+
+module _ (list starts : List ℕ) (a : ℕ) where
+  pub name-there : no-tag a ≡ false → name-by list starts a ≡ bare (take (getD starts a 0 - getD starts (a - 1) 0) (drop (getD starts (a - 1) 0) list))
+  unfolding name-by
+  name-there e = rw e
+
+  pub name-none : no-tag a ≡ true → name-by list starts a ≡ []
+  unfolding name-by
+  name-none e = rw e
 
 module _ (list starts : List ℕ) (index : Indexed list starts) where
   module _ (k : ℕ) (h : k < line-count list) where
     pub indexed-cut : Cut list (getD starts k 0) (getD starts (k + 1) 0)
     indexed-cut = rw (add-one, index .start k (omega arith), index .start (suc k) h) (cut-at list k (omega arith))
 
-    pub indexed-line : part list starts k ≡ line list k
+    pub indexed-line : take (getD starts (k + 1) 0 - getD starts k 0) (drop (getD starts k 0) list) ≡ line list k
     indexed-line = rw (add-one, index .start k (omega arith), index .start (suc k) h) (sym (line-at list k (omega arith)))
 
     pub indexed-name : bare (line list k) ≡ take (getD starts (k + 1) 0 - 1 - getD starts k 0) (drop (getD starts k 0) list)
     indexed-name = ap bare (sym indexed-line) ∙ part-bare list (getD starts k 0) (getD starts (k + 1) 0) (indexed-cut .within)
 
-  parts-from : (n k : ℕ) → k + n ≤ line-count list → map (part list starts) (from n k) ≡ take n (drop k (lines list))
-  unfolding from
-  parts-from zero k h = refl
-  parts-from (suc n) k h = ap₂ _∷_ (indexed-line k (omega arith)) (parts-from n (suc k) (omega arith)) ∙ sym (ap (take (suc n)) (drop-cons (lines list) k [] (omega arith)))
-
-  pub parts-lines : (n : ℕ) → n ≤ line-count list → parts list starts n ≡ take n (lines list)
-  parts-lines n h = parts-from n 0 (omega arith)
+  pub name-is : (a : ℕ) → 1 ≤ a → a ≤ line-count list → name-by list starts a ≡ name-of list a
+  unfolding name-of
+  name-is a h i =
+      let e : a - 1 + 1 ≡ a = omega arith in
+      name-there list starts a (tag-is a h (omega arith)) ∙ ap bare (rw e at (indexed-line (a - 1) (omega arith)))
 
 -- ---- a checked list
 
@@ -105,11 +111,3 @@ module _ (list : List ℕ) (g : ℕ) (checked : names-of list ≡ passes g) wher
         let k : a - 1 < line-count list = omega (arith, all-indexed) in
         let c : Cut list (getD starts (a - 1) 0) (getD starts a 0) = rw e at (indexed-cut list starts index (a - 1) k) in
         record { after = c .after; within = c .within; name = rw e at (indexed-name list starts index (a - 1) k) }
-
-    pub tag-found : (name : List ℕ) → number-from 0 name (parts list starts (min g 64)) ≡ tag-of list name
-    unfolding tag-of
-    tag-found name =
-        let n = few-names list g checked in
-        let m : min g 64 ≡ g = omega arith in
-        let l = lines-counted list g checked in
-        rw (m, parts-lines list starts index g (omega (arith, all-indexed)), take-all g (lines list) (omega arith))

@@ -1,5 +1,6 @@
 -- The lines of a list by their offsets, and the number of a name among lines.
 use mathlib.Core.Path.{_≡_, refl, sym, ap, _∙_}
+use mathlib.Core.Logic.{_≢_}
 use mathlib.Core.Bool.{Bool, true, false, cond}
 use mathlib.Core.List.{List, [], _∷_}
 use Prim.Native.Nat.{ℕ, zero, suc, _+_, _-_, _≤_, _<_}
@@ -11,6 +12,7 @@ use lib.ListN.{length, getD, take, drop, length-drop}
 use lib.Seq.{drop-cons, drop-drop, length-take-le, getD-drop}
 use Rattle.model.specs.Bytes.{same-bytes}
 use Rattle.model.specs.Names.{lines, prepend, bare, number-from}
+use Rattle.model.proofs.NameLaws.{same-bytes-refl}
 use Rattle.names.specs.Lines.{line, start-of}
 use Rattle.names.proofs.Parts.{part-length}
 use Rattle.names.proofs.Scan.{lines-end}
@@ -132,16 +134,25 @@ module _ (list : List ℕ) (k : ℕ) (h : k < length (lines list)) where
 
 -- ---- the number of a name among lines
 
--- `same` is the answer of a test whether the first line holds the name
-module _ {ls rest : List (List ℕ)} {l : List ℕ} {same : Bool} (k : ℕ) (name : List ℕ) (e : ls ≡ l ∷ rest) (tested : same ≡ same-bytes (bare l) name) where
-  pub number-here : same ≡ true → number-from k name ls ≡ k + 1
+module _ {ls rest : List (List ℕ)} {l : List ℕ} (k : ℕ) (name : List ℕ) (e : ls ≡ l ∷ rest) where
+  pub number-here : same-bytes (bare l) name ≡ true → number-from k name ls ≡ k + 1
   unfolding number-from
-  number-here h = rw (e, ← tested, h, add-one)
+  number-here h = rw (e, h, add-one)
 
-  pub number-later : same ≡ false → number-from k name ls ≡ number-from (k + 1) name rest
+  pub number-later : same-bytes (bare l) name ≡ false → number-from k name ls ≡ number-from (k + 1) name rest
   unfolding number-from
-  number-later h = rw (e, ← tested, h, add-one)
+  number-later h = rw (e, h, add-one)
 
 pub number-none : {ls : List (List ℕ)} (k : ℕ) (name : List ℕ) → ls ≡ [] → number-from k name ls ≡ 0
 unfolding number-from
 number-none k name e = rw e
+
+pub number-some : (k : ℕ) (name : List ℕ) (ls : List (List ℕ)) (j : ℕ) → j < length ls → bare (getD ls j []) ≡ name → number-from k name ls ≢ 0
+unfolding number-from
+number-some k name [] j h e = absurd (omega arith)
+number-some k name (l ∷ ls) zero h e = rw (e, same-bytes-refl name) (λ z. absurd (omega arith))
+number-some k name (l ∷ ls) (suc j) h e = by (same-bytes (bare l) name) (number-some (suc k) name ls j (omega arith) e)
+  where
+    by : (b : Bool) → number-from (suc k) name ls ≢ 0 → cond b (suc k) (number-from (suc k) name ls) ≢ 0
+    by true ih = λ z. absurd (omega arith)
+    by false ih = ih

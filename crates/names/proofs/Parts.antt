@@ -1,13 +1,12 @@
--- Parts of a list, `take (end - at) (drop at list)`, and whether a part is a line that holds a name.
-use mathlib.Core.Path.{_≡_, refl, sym, _∙_}
-use mathlib.Core.List.{List, [], _∷_}
-use Prim.Native.Nat.{ℕ, suc, _+_, _-_, _≤_, _<_, min}
+-- Parts of a list, `take (end - at) (drop at list)`, without their last byte.
+use mathlib.Core.Path.{_≡_, sym, _∙_}
+use mathlib.Core.List.{List, []}
+use Prim.Native.Nat.{ℕ, _+_, _-_, _≤_, _<_, min}
 use native.Mathlib.Omega.{arith}
-use lib.Dec.{eqb, leb}
+use lib.Dec.{leb}
 use lib.ListN.{length, getD, take, drop, length-drop}
 use lib.Seq.{take-all, take-take, length-take-le, getD-take, getD-drop}
-use borrow.Author.Tests.{leb-true, leb-false, ne-eqb}
-use Rattle.model.specs.Bytes.{same-bytes}
+use borrow.Author.Tests.{leb-true, leb-false}
 use Rattle.model.specs.Names.{bare}
 use Rattle.model.proofs.Tests.{Told, yea, nay, told}
 
@@ -36,16 +35,8 @@ module _ (list : List ℕ) (at end m : ℕ) (stops : m ≡ min end (length list)
           let l = leb-false end (length list) h in
           take-all (end - at) (drop at list) (omega (arith, length-drop at list)) ∙ sym (take-all (m - at) (drop at list) (omega (arith, length-drop at list)))
 
-  held : bare (take (end - at) (drop at list)) ≡ take (m - 1 - at) (drop at list)
-  held = rw part-within (part-bare list at m (omega arith))
+  pub part-some : bare (take (end - at) (drop at list)) ≡ take (m - 1 - at) (drop at list)
+  part-some = rw part-within (part-bare list at m (omega arith))
 
-  pub held-some : (name : List ℕ) → same-bytes (bare (take (end - at) (drop at list))) name ≡ same-bytes (take (m - 1 - at) (drop at list)) name
-  held-some name = rw held
-
-  pub held-none : (name : List ℕ) → m ≤ at → same-bytes (bare (take (end - at) (drop at list))) name ≡ eqb (length name) 0
-  unfolding same-bytes
-  held-none name h = let f : m - 1 - at ≡ 0 = omega arith in rw (held, f) (go name)
-    where
-      go : (name : List ℕ) → same-bytes [] name ≡ eqb (length name) 0
-      go [] = refl
-      go (b ∷ name) = sym (ne-eqb (suc (length name)) 0 (λ e. omega arith))
+  pub part-none : m ≤ at → bare (take (end - at) (drop at list)) ≡ []
+  part-none h = let f : m - 1 - at ≡ 0 = omega arith in rw (part-some, f)

@@ -1,10 +1,12 @@
 -- Where the lines of a name list begin, and the lines that an index of such offsets bounds.
 use mathlib.Core.Path.{_≡_}
+use mathlib.Core.Bool.{Bool, cond, _||_}
 use mathlib.Core.List.{List, [], _∷_, map}
 use Prim.Native.Nat.{ℕ, zero, suc, _+_, _-_, _≤_, min}
+use lib.Dec.{eqb, ltb}
 use lib.ListN.{length, getD, take, drop}
 use Rattle.model.specs.Lists.{numbers}
-use Rattle.model.specs.Names.{lines}
+use Rattle.model.specs.Names.{lines, bare}
 
 -- line k, none past the last
 abbrev pub line : List ℕ → ℕ → List ℕ
@@ -27,9 +29,9 @@ line-starts list = map (start-of (lines list)) (numbers (line-count list + 1))
 pub record Indexed (list starts : List ℕ) : Type 0 where
   pub start : (k : ℕ) → k ≤ line-count list → getD starts k 0 ≡ start-of (lines list) k
 
--- the part of a list that entry k and the next bound; the first n parts
-abbrev pub part : (list starts : List ℕ) → ℕ → List ℕ
-part list starts k = take (getD starts (k + 1) 0 - getD starts k 0) (drop (getD starts k 0) list)
+-- Tags are 1 to 64. The name of a tag by an index: the part of the list that its entries bound, without its last byte.
+abbrev pub no-tag : ℕ → Bool
+no-tag a = eqb a 0 || ltb 64 a
 
-abbrev pub parts : (list starts : List ℕ) → ℕ → List (List ℕ)
-parts list starts n = map (part list starts) (numbers n)
+unfoldable pub name-by : (list starts : List ℕ) → ℕ → List ℕ
+name-by list starts a = cond (no-tag a) [] (bare (take (getD starts a 0 - getD starts (a - 1) 0) (drop (getD starts (a - 1) 0) list)))

@@ -1,16 +1,18 @@
-// The name list: its check, the tag of a name, and where its lines begin.
+// The name list: its check, the tag of a name, where its lines begin, and chains of tags by their names.
 use model::Answer;
 use model::Refusal;
 ghost use mathlib.Core.Path.{_≡_};
+ghost use mathlib.Core.Bool.{true};
 ghost use Prim.Native.Nat.{_+_, _-_, _<_, min};
 ghost use lib.ListN.{length, take, drop};
 ghost use lib.Seq.{sets};
 ghost use Rattle.model.specs.Answers.{said};
 ghost use Rattle.model.specs.Bytes.{is-name, letter-byte, name-byte, same-bytes};
 ghost use Rattle.model.specs.Calls.{names-said};
-ghost use Rattle.model.specs.Names.{lines, bare, number-from, tag-of, good-line};
+ghost use Rattle.model.specs.Names.{lines, bare, tag-of, good-line};
 ghost use Rattle.chars.specs.Table.{table};
-ghost use Rattle.names.specs.Lines.{line, line-count, line-starts, Indexed, parts};
+ghost use Rattle.names.specs.Lines.{line, line-count, line-starts, Indexed, name-by};
+ghost use Rattle.names.specs.Chains.{along, bucket, Chained};
 
 const LINE_FEED: u8 = 10;
 
@@ -19,6 +21,15 @@ pub const MOST_NAMES: usize = 64;
 
 // A name has at most so many bytes.
 const LONGEST_NAME: usize = 24;
+
+// Tags stand in so many chains, by their names.
+pub const BUCKETS: usize = 64;
+
+// An entry for each line, and one more.
+type PerName = [usize; MOST_NAMES + 1];
+
+// An entry for each chain.
+type PerBucket = [usize; BUCKETS];
 
 // The number of names, or the first line that is not in order.
 pub fn check(list: &[u8]) -> Answer
@@ -30,9 +41,11 @@ pub fn check(list: &[u8]) -> Answer
     let classes = chars::classes();
     let mut starts = [0usize; MOST_NAMES + 1];
     let count = index(list, &mut starts);
+    let mut heads = [0usize; BUCKETS];
+    let mut nexts = [0usize; MOST_NAMES + 1];
     let mut good = 0;
     while good < count {
-        if !good_line(&classes, list, &starts, good) {
+        if !enter(&classes, list, &starts, &mut heads, &mut nexts, good) {
             return Answer::Error(Refusal::NameList(starts[good]));
         }
         good += 1;
@@ -45,7 +58,7 @@ pub fn check(list: &[u8]) -> Answer
     Answer::Count(good)
 }
 
-// The tag of a name, 0 where it is not listed. A call that looks up many names takes `index` and `find_indexed`.
+// The tag of a name, 0 where it is not listed. A call that looks up many names takes `index`, and chains the tags.
 pub fn find(list: &[u8], name: &[u8]) -> usize
     ensures { λ r. ⌜ r ≡ tag-of (now (list .entry)) (now (name .entry)) ⌝ }
 {
@@ -53,7 +66,7 @@ pub fn find(list: &[u8], name: &[u8]) -> usize
     let mut passed = 0;
     while at < list.len() {
         let end = line_end(list, at);
-        if holds(list, at, end, name) {
+        if same_bytes(bare(list, at, end), name) {
             return passed + 1;
         }
         at = end;
@@ -64,7 +77,7 @@ pub fn find(list: &[u8], name: &[u8]) -> usize
 
 // The number of lines, counted up to 64. The offsets where they begin, and where the last of them ends, are written to the front
 // of `starts`: `sets l i vs` is l with vs from place i on.
-pub fn index(list: &[u8], starts: &mut [usize; MOST_NAMES + 1]) -> usize
+pub fn index(list: &[u8], starts: &mut PerName) -> usize
     ensures lines { λ r. ⌜ r ≡ line-count (now (list .entry)) ⌝ }
     ensures starts { λ r. ⌜ now (starts .exit) ≡ sets (now (starts .entry)) 0 (line-starts (now (list .entry))) ⌝ }
 {
@@ -82,25 +95,55 @@ pub fn index(list: &[u8], starts: &mut [usize; MOST_NAMES + 1]) -> usize
     k
 }
 
-// The number, from 1, of the first line among the first `count` that holds the name, by the offsets that `index` wrote; 0 where
-// none does. Any other offsets bound parts of the list too.
-pub fn find_indexed(
+// The name of a tag, by the offsets that `index` wrote; no byte where the number is no tag. Any other offsets bound parts of the list
+// too.
+pub fn name_of<'a>(list: &'a [u8], starts: &PerName, tag: usize) -> &'a [u8]
+    ensures { λ r. ⌜ now r ≡ name-by (now (list .entry)) (now (starts .entry)) tag ⌝ }
+{
+    if (tag == 0) | (MOST_NAMES < tag) {
+        return &list[..0];
+    }
+    bare(list, starts[tag - 1], starts[tag])
+}
+
+// The tag of a name in a chain that begins with tag `first`, 0 where none of its tags, at most 64, has the name. `nexts` has the tag
+// behind each tag, 0 at the end.
+pub fn find_chained(
     list: &[u8],
-    starts: &[usize; MOST_NAMES + 1],
-    count: usize,
+    starts: &PerName,
+    nexts: &PerName,
+    first: usize,
     name: &[u8],
 ) -> usize
-    ensures { λ r. ⌜ r ≡ number-from 0 (now (name .entry)) (parts (now (list .entry)) (now (starts .entry)) (min count 64)) ⌝ }
+    ensures { λ r. ⌜ r ≡ along (now (list .entry)) (now (starts .entry)) (now (nexts .entry)) (now (name .entry)) 64 first ⌝ }
 {
-    let lines = least(count, MOST_NAMES);
-    let mut k = 0;
-    while k < lines {
-        if holds(list, starts[k], starts[k + 1], name) {
-            return k + 1;
+    let mut tag = first;
+    let mut left = MOST_NAMES;
+    while 0 < left {
+        if (tag == 0) | (MOST_NAMES < tag) {
+            return 0;
         }
-        k += 1;
+        if same_bytes(name_of(list, starts, tag), name) {
+            return tag;
+        }
+        tag = nexts[tag];
+        left -= 1;
     }
     0
+}
+
+// The chain that a name's tag is in.
+pub fn bucket(name: &[u8]) -> usize
+    ensures is { λ r. ⌜ r ≡ bucket (now (name .entry)) ⌝ }
+    ensures within { λ r. ⌜ r < 64 ⌝ }
+{
+    let mut hash = 0;
+    let mut i = 0;
+    while i < name.len() {
+        hash = (13 * hash + name[i] as usize) % BUCKETS;
+        i += 1;
+    }
+    hash
 }
 
 pub fn same_bytes(a: &[u8], b: &[u8]) -> bool
@@ -119,15 +162,15 @@ pub fn same_bytes(a: &[u8], b: &[u8]) -> bool
     true
 }
 
-// Whether the part from `at` to `end`, or to the list's end, is a line that holds the name.
-fn holds(list: &[u8], at: usize, end: usize, name: &[u8]) -> bool
-    ensures { λ r. ⌜ r ≡ same-bytes (bare (take (end - at) (drop at (now (list .entry))))) (now (name .entry)) ⌝ }
+// The part from `at` to `end`, or to the list's end, without its last byte.
+fn bare<'a>(list: &'a [u8], at: usize, end: usize) -> &'a [u8]
+    ensures { λ r. ⌜ now r ≡ bare (take (end - at) (drop at (now (list .entry)))) ⌝ }
 {
     let stop = least(end, list.len());
     if stop <= at {
-        return name.len() == 0;
+        return &list[..0];
     }
-    same_bytes(&list[at..stop - 1], name)
+    &list[at..stop - 1]
 }
 
 fn least(a: usize, b: usize) -> usize
@@ -150,24 +193,40 @@ fn line_end(list: &[u8], at: usize) -> usize
     i
 }
 
-// Whether line k is a name of at most 24 bytes and a line feed, and no line before it holds the name.
-fn good_line(classes: &[u8; 256], list: &[u8], starts: &[usize; MOST_NAMES + 1], k: usize) -> bool
+// Whether line k is a name of at most 24 bytes and a line feed, and no line before it holds the name. If so, its tag becomes the
+// first of its chain; only that chain can hold the name.
+fn enter(
+    classes: &[u8; 256],
+    list: &[u8],
+    starts: &PerName,
+    heads: &mut PerBucket,
+    nexts: &mut PerName,
+    k: usize,
+) -> bool
     requires { ⌜ (now classes ≡ table) × Indexed (now list) (now starts) × (k < line-count (now list)) ⌝ }
-    ensures { λ r. ⌜ r ≡ good-line (lines (now (list .entry))) k (line (now (list .entry)) k) ⌝ }
+    requires { ⌜ Chained (now list) (now heads) (now nexts) k ⌝ }
+    ensures good { λ r. ⌜ r ≡ good-line (lines (now (list .entry))) k (line (now (list .entry)) k) ⌝ }
+    ensures chained { λ r. ⌜ (r ≡ true → Chained (now (list .entry)) (now (heads .exit)) (now (nexts .exit)) (k + 1)) ⌝ }
 {
-    let at = starts[k];
-    let last = starts[k + 1] - 1;
-    let name = &list[at..last];
+    let tag = k + 1;
+    let name = name_of(list, starts, tag);
     if LONGEST_NAME < name.len() {
         return false;
     }
-    if list[last] != LINE_FEED {
+    if list[starts[tag] - 1] != LINE_FEED {
         return false;
     }
     if !is_name(classes, name) {
         return false;
     }
-    find_indexed(list, starts, k, name) == 0
+    let chain = bucket(name);
+    let first = heads[chain];
+    if find_chained(list, starts, nexts, first, name) != 0 {
+        return false;
+    }
+    nexts[tag] = first;
+    heads[chain] = tag;
+    true
 }
 
 // Whether the bytes are a letter, then letters, digits and hyphens.

@@ -2,6 +2,6 @@ mod RunLaws
 mod Steps
 mod Tokens
 mod PackLaws
-mod ChainLaws
+mod TagLaws
 mod Readings
 mod Answers

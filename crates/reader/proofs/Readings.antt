@@ -14,7 +14,7 @@ use lib.Seq.{drop-drop, length-take-le}
 use Rattle.model.specs.Answers.{said-refusal, refusal, Checked, refuses}
 use Rattle.model.specs.Tree.{Span, Element, Document, ε}
 use Rattle.model.specs.Bytes.{same-bytes, kind-of-text}
-use Rattle.model.specs.Names.{name-of, tag-of}
+use Rattle.model.specs.Names.{tag-of}
 use Rattle.model.specs.Text.{Place, before, root-open, blank, tag-open, start-gap, start-slash, end-open, end-gap, after, Open, innermost, name-at, text-at, behind, text-node, outside, closed, form-of}
 use Rattle.model.specs.Written.{text-byte}
 use Rattle.model.specs.declared.Refusal.{Refusal}
@@ -23,8 +23,8 @@ use Rattle.model.proofs.Scan.{scan-is}
 use Rattle.model.proofs.Tests.{Yes, never, or-left, or-right, or-cases, same, eqb-yes}
 use Rattle.model.proofs.NameLaws.{tag-few}
 use Rattle.model.proofs.RoundScan.{state, an-open}
-use Rattle.names.specs.Lines.{line-count}
-use Rattle.reader.specs.Chains.{Listing}
+use Rattle.names.specs.Lines.{line-count, name-by}
+use Rattle.reader.specs.Listing.{Listing}
 use Rattle.reader.specs.Packed.{packed, unpacked, closed-words, closed-scan, Holds, outermost, inside}
 use Rattle.reader.specs.Reading.{at-offset, Reads, ReadsAt, AtStartTag, Solid, Refuses, stop-refusal, Goes, Whole}
 use Rattle.reader.specs.Runs.{run, class-within, first-class, trim}
@@ -32,7 +32,7 @@ use Rattle.reader.specs.declared.Scan.{Scan}
 use Rattle.reader.specs.declared.Step.{Step}
 use Rattle.reader.specs.declared.Step.the-variants.{On, Refused}
 use Rattle.reader.proofs.RunLaws.{byte-there, run-within, name-run, text-run, kind-few}
-use Rattle.reader.proofs.ChainLaws.{tag-named, tag-other}
+use Rattle.reader.proofs.TagLaws.{tag-named, tag-other}
 use Rattle.reader.proofs.Steps.{stop-number, onward}
 use Rattle.reader.proofs.Tokens.{Waits, before-waits, blank-waits, start-gap-waits, end-gap-waits, after-waits, Leads, at-root, in-content, white-run, white-left, less-on, too-deep, too-many, unknown, opened, start-ends, slash-on, empty-ends, end-on, end-ends, other-name, own-name, text-end, text-too-many, text-ends, text-broken, stuck-before, stuck-root-open, stuck-tag-open, stuck-blank, stuck-start-gap, stuck-start-slash, stuck-end-open, stuck-end-gap, stuck-after, all-read}
 use Rattle.reader.proofs.PackLaws.{holds-none, holds-all, packed-tag, unpacked-packed, holds-open, holds-text, open-tag, top-read, parent-above, holds-close}
@@ -234,10 +234,10 @@ module _ {list text words : List ℕ} {s : Scan} (r : ReadsAt list text words en
   pub top-inside : s .top < s .nodes
   top-inside = top .read
 
-  pub top-tag-some : 1 ≤ getD words (s .top) 0 % 65536
+  top-tag-some : 1 ≤ getD words (s .top) 0 % 65536
   top-tag-some = rw (top .tag-is) (top .some)
 
-  pub top-tag-listed : getD words (s .top) 0 % 65536 ≤ line-count list
+  top-tag-listed : getD words (s .top) 0 % 65536 ≤ line-count list
   top-tag-listed = rw (top .tag-is) (top .listed)
 
   module _ (first : ℕ) (told-first : first ≡ first-class (drop (s .at) text)) where
@@ -249,7 +249,7 @@ module _ {list text words : List ℕ} {s : Scan} (r : ReadsAt list text words en
       name-is : name-at (drop (s .at) text) ≡ take (end - s .at) (drop (s .at) text)
       name-is = let n : end - s .at ≡ run (class-within 1 3) (drop (s .at) text) = omega arith in name-run (drop (s .at) text) ∙ ap (λ (m : ℕ). take m (drop (s .at) text)) (sym n)
 
-      pub end-other : same-bytes (name-of list (getD words (s .top) 0 % 65536)) (take (end - s .at) (drop (s .at) text)) ≡ false → Refuses (form-of list text) (OtherName (s .at))
+      pub end-other : same-bytes (name-by list lines (getD words (s .top) 0 % 65536)) (take (end - s .at) (drop (s .at) text)) ≡ false → Refuses (form-of list text) (OtherName (s .at))
       unfolding said-refusal
       end-other e =
           refused r
@@ -257,7 +257,7 @@ module _ {list text words : List ℕ} {s : Scan} (r : ReadsAt list text words en
           (λ z. tag-other listing _ top-tag-some top-tag-listed _ e (ap (tag-of list) (sym name-is) ∙ z ∙ sym (top .tag-is))))
           refl
 
-      module _ (own : same-bytes (name-of list (getD words (s .top) 0 % 65536)) (take (end - s .at) (drop (s .at) text)) ≡ true) where
+      module _ (own : same-bytes (name-by list lines (getD words (s .top) 0 % 65536)) (take (end - s .at) (drop (s .at) text)) ≡ true) where
         named : ReadsAt list text words end-gap (at-offset s end)
         named =
             rw skipped (reads-on r (λ os. end-gap) _ (run-within (class-within 1 3) text (s .at) (r .within))

@@ -1,4 +1,4 @@
 pub mod Runs
 pub mod Packed
-pub mod Chains
+pub mod Listing
 pub mod Reading

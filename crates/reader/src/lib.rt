@@ -8,18 +8,19 @@ use model::Refusal;
 ghost use mathlib.Core.List.{_++_};
 ghost use mathlib.Core.Path.{_≡_};
 ghost use Prim.Native.Nat.{_+_, _-_, _*_, _≤_, _<_};
-ghost use lib.ListN.{length, take, drop, replicate};
+ghost use lib.ListN.{length, take, drop};
 ghost use lib.Seq.{sets};
 ghost use Rattle.model.specs.Answers.{said, passes};
 ghost use Rattle.model.specs.Bytes.{class-number, class-of, kind-of-text};
 ghost use Rattle.model.specs.Calls.{read-said, read-tree};
 ghost use Rattle.model.specs.Lists.{every};
-ghost use Rattle.model.specs.Names.{name-of, names-of, tag-of};
+ghost use Rattle.model.specs.Names.{names-of, tag-of};
 ghost use Rattle.model.specs.Text.{blank, start-gap, end-open, outside};
 ghost use Rattle.model.specs.Written.{text-byte};
 ghost use Rattle.chars.specs.Table.{table};
-ghost use Rattle.names.specs.Lines.{line-count};
-ghost use Rattle.reader.specs.Chains.{bucket, Listing, Chained};
+ghost use Rattle.names.specs.Lines.{line-count, Indexed};
+ghost use Rattle.names.specs.Chains.{Chained};
+ghost use Rattle.reader.specs.Listing.{Listing};
 ghost use Rattle.reader.specs.Packed.{packed, unpacked, all-unpacked, closed-words, closed-scan};
 ghost use Rattle.reader.specs.Reading.{Reads, ReadsAt, AtStartTag, Solid, Goes, GoesFrom, Scanned, at-offset, stop-refusal};
 ghost use Rattle.reader.specs.Runs.{run, class-within, first-class, trim};
@@ -45,9 +46,6 @@ const BLOCK: usize = 16;
 // Each field of a node's word has so many values.
 const FIELD: u64 = 65536;
 
-// The tags stand in so many chains, by their names.
-const BUCKETS: usize = 64;
-
 // The class of each byte value.
 type Classes = [u8; 256];
 
@@ -55,7 +53,7 @@ type Classes = [u8; 256];
 type PerName = [usize; names::MOST_NAMES + 1];
 
 // An entry for each chain.
-type PerBucket = [usize; BUCKETS];
+type PerBucket = [usize; names::BUCKETS];
 
 // A word for each node.
 type Words = [u64; MOST_NODES];
@@ -120,7 +118,7 @@ fn scan_form(list: &[u8], text: &[u8], words: &mut Words) -> Answer
     let classes = chars::classes();
     let mut lines = [0usize; names::MOST_NAMES + 1];
     let count = names::index(list, &mut lines);
-    let mut heads = [0usize; BUCKETS];
+    let mut heads = [0usize; names::BUCKETS];
     let mut nexts = [0usize; names::MOST_NAMES + 1];
     chain(list, &lines, count, &mut heads, &mut nexts);
     let first = root(&classes, list, &lines, &heads, &nexts, text, words);
@@ -142,7 +140,7 @@ fn root(
 ) -> Step
     requires { ⌜ now classes ≡ table ⌝ }
     requires { ⌜ Listing (now list) (now lines) ⌝ }
-    requires { ⌜ Chained (now list) (now heads) (now nexts) 0 ⌝ }
+    requires { ⌜ Chained (now list) (now heads) (now nexts) (line-count (now list)) ⌝ }
     requires { ⌜ (length (now text) ≤ 65535) × (length (now words) ≡ 4096) ⌝ }
     ensures { λ r. ⌜ Goes (now (list .entry)) (now (text .entry)) (now (words .exit)) 0 r ⌝ }
 {
@@ -177,7 +175,7 @@ fn content(
 ) -> Answer
     requires { ⌜ now classes ≡ table ⌝ }
     requires { ⌜ Listing (now list) (now lines) ⌝ }
-    requires { ⌜ Chained (now list) (now heads) (now nexts) 0 ⌝ }
+    requires { ⌜ Chained (now list) (now heads) (now nexts) (line-count (now list)) ⌝ }
     requires { ⌜ Reads (now list) (now text) (now words) outside start ⌝ }
     ensures { λ r. ⌜ Scanned (now (list .entry)) (now (text .entry)) (now (words .exit)) r ⌝ }
 {
@@ -211,7 +209,7 @@ fn token(
 ) -> Step
     requires { ⌜ now classes ≡ table ⌝ }
     requires { ⌜ Listing (now list) (now lines) ⌝ }
-    requires { ⌜ Chained (now list) (now heads) (now nexts) 0 ⌝ }
+    requires { ⌜ Chained (now list) (now heads) (now nexts) (line-count (now list)) ⌝ }
     requires { ⌜ (1 ≤ s .depth) × Reads (now list) (now text) (now words) outside s ⌝ }
     ensures { λ r. ⌜ Goes (now (list .entry)) (now (text .entry)) (now (words .exit)) (s .at) r ⌝ }
 {
@@ -255,7 +253,7 @@ fn start_tag(
 ) -> Step
     requires { ⌜ now classes ≡ table ⌝ }
     requires { ⌜ Listing (now list) (now lines) ⌝ }
-    requires { ⌜ Chained (now list) (now heads) (now nexts) 0 ⌝ }
+    requires { ⌜ Chained (now list) (now heads) (now nexts) (line-count (now list)) ⌝ }
     requires { ⌜ AtStartTag (now list) (now text) (now words) s ⌝ }
     ensures { λ r. ⌜ Goes (now (list .entry)) (now (text .entry)) (now (words .exit)) (s .at) r ⌝ }
 {
@@ -326,7 +324,7 @@ fn end_tag(
     let end = skip(classes, text, from, chars::LETTER, chars::HYPHEN);
     let innermost = s.top;
     let tag = (words[innermost] % FIELD) as usize;
-    if !names::same_bytes(name_of(list, lines, tag), &text[from..end]) {
+    if !names::same_bytes(names::name_of(list, lines, tag), &text[from..end]) {
         return Step::Refused(Refusal::OtherName(from));
     }
     let at = skip(classes, text, end, chars::WHITE, chars::WHITE);
@@ -469,21 +467,10 @@ fn text_block(text: &[u8], at: usize) -> bool
     let mut all = true;
     let mut i = 0;
     while i < BLOCK {
-        all = all & text_byte(text[at + i]);
+        all = all & chars::in_text(text[at + i]);
         i += 1;
     }
     all
-}
-
-// Whether a text may go on with a byte: white, or from ! to ~ but none of & < >. No table is read, so that 16 are tested together.
-fn text_byte(byte: u8) -> bool
-    ensures { λ r. ⌜ r ≡ text-byte byte ⌝ }
-{
-    ((byte == 9) | (byte == 10) | (byte == 13) | (32 <= byte))
-        & (byte <= 126)
-        & (byte != b'&')
-        & (byte != b'<')
-        & (byte != b'>')
 }
 
 // The offset behind the last byte, from `at` up to `stop`, that is not white.
@@ -520,59 +507,28 @@ fn kind_of(classes: &Classes, bytes: &[u8]) -> u64
 // The tag of a name, 0 where it is not listed.
 fn find(list: &[u8], lines: &PerName, heads: &PerBucket, nexts: &PerName, name: &[u8]) -> usize
     requires { ⌜ Listing (now list) (now lines) ⌝ }
-    requires { ⌜ Chained (now list) (now heads) (now nexts) 0 ⌝ }
+    requires { ⌜ Chained (now list) (now heads) (now nexts) (line-count (now list)) ⌝ }
     ensures { λ r. ⌜ r ≡ tag-of (now (list .entry)) (now (name .entry)) ⌝ }
 {
-    let mut tag = heads[bucket(name)];
-    while tag != 0 {
-        if names::same_bytes(name_of(list, lines, tag), name) {
-            return tag;
-        }
-        tag = nexts[tag];
-    }
-    0
+    let first = heads[names::bucket(name)];
+    names::find_chained(list, lines, nexts, first, name)
 }
 
-// Chains the tags: `heads` has the first tag of each chain, `nexts` the tag behind each tag, 0 at the end. The last tag is chained
-// first, so that each chain ascends.
+// Chains the tags: `heads` has the last tag of each chain, `nexts` the tag before each tag, 0 where there is none.
 fn chain(list: &[u8], lines: &PerName, count: usize, heads: &mut PerBucket, nexts: &mut PerName)
-    requires { ⌜ Listing (now list) (now lines) ⌝ }
+    requires { ⌜ Indexed (now list) (now lines) ⌝ }
     requires { ⌜ count ≡ line-count (now list) ⌝ }
-    requires { ⌜ (now heads ≡ replicate 64 0) × (length (now nexts) ≡ 65) ⌝ }
-    ensures { λ r. ⌜ Chained (now (list .entry)) (now (heads .exit)) (now (nexts .exit)) 0 ⌝ }
+    requires { ⌜ Chained (now list) (now heads) (now nexts) 0 ⌝ }
+    ensures { λ r. ⌜ Chained (now (list .entry)) (now (heads .exit)) (now (nexts .exit)) (line-count (now (list .entry))) ⌝ }
 {
-    let mut tag = count;
-    while 0 < tag {
-        let chain = bucket(name_of(list, lines, tag));
+    let mut chained = 0;
+    while chained < count {
+        let tag = chained + 1;
+        let chain = names::bucket(names::name_of(list, lines, tag));
         nexts[tag] = heads[chain];
         heads[chain] = tag;
-        tag -= 1;
+        chained = tag;
     }
-}
-
-// The chain that a name's tag is in.
-fn bucket(name: &[u8]) -> usize
-    ensures is { λ r. ⌜ r ≡ bucket (now (name .entry)) ⌝ }
-    ensures within { λ r. ⌜ r < 64 ⌝ }
-{
-    let mut hash = 0;
-    let mut i = 0;
-    while i < name.len() {
-        hash = (13 * hash + name[i] as usize) % BUCKETS;
-        i += 1;
-    }
-    hash
-}
-
-// The name of a tag.
-fn name_of<'a>(list: &'a [u8], lines: &PerName, tag: usize) -> &'a [u8]
-    requires { ⌜ Listing (now list) (now lines) ⌝ }
-    requires { ⌜ (1 ≤ tag) × (tag ≤ line-count (now list)) ⌝ }
-    ensures { λ r. ⌜ now r ≡ name-of (now (list .entry)) tag ⌝ }
-{
-    let from = lines[tag - 1];
-    let end = lines[tag] - 1;
-    &list[from..end]
 }
 
 // ---- nodes

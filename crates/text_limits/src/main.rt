@@ -145,9 +145,17 @@ fn tile(text: &mut [u8]) {
     }
 }
 
-fn put(text: &mut [u8], at: usize, byte: u8) {
-    if at < text.len() {
-        text[at] = byte;
+// Writes the bytes from offset `at` on, as far as the text reaches.
+fn put(text: &mut [u8], at: usize, bytes: &[u8]) {
+    let mut i = at;
+    let mut k = 0;
+    while i < text.len() {
+        if k == bytes.len() {
+            return;
+        }
+        text[i] = bytes[k];
+        i += 1;
+        k += 1;
     }
 }
 
@@ -155,21 +163,32 @@ fn many_nodes() {
     let mut tree = [0u32; 16384];
     let mut text = [0u8; 16392];
     tile(&mut text);
-    put(&mut text, 0, 60);
-    put(&mut text, 1, 97);
-    put(&mut text, 2, 62);
+    put(&mut text, 0, b"<a>");
     read_front(b"4,096 nodes and the end", &text, 16383, &mut tree, 16384);
     read_front(b"4,096 nodes and <", &text, 16384, &mut tree, 16384);
     read_front(b"4,096 nodes and <a", &text, 16385, &mut tree, 16384);
-    put(&mut text, 16388, 47);
-    put(&mut text, 16389, 97);
+    put(&mut text, 16388, b"/a");
     read_front(b"4,097 nodes", &text, 16391, &mut tree, 16384);
-    put(&mut text, 16384, 47);
-    put(&mut text, 16385, 97);
+    put(&mut text, 16384, b"/a");
     read_front(b"4,096 nodes", &text, 16387, &mut tree, 16384);
     say::answer(b"their tree", tree::check(&tree, 2));
-    put(&mut text, 16383, 120);
+    put(&mut text, 16383, b"x");
     read_front(b"4,096 nodes and a text", &text, 16384, &mut tree, 16384);
+}
+
+// Under 31 open elements `<a/>` lies at depth 32. A 4,096th node that stays open makes the next `<` depth 33 too.
+fn many_deep_nodes() {
+    let mut tree = [0u32; 4];
+    let mut text = [0u8; 16357];
+    tile(&mut text);
+    put(
+        &mut text,
+        0,
+        b"  <a><a><a><a><a><a><a><a><a><a><a><a><a><a><a><a><a><a><a><a><a><a><a><a><a><a><a><a><a><a><a>",
+    );
+    read_front(b"node 4,097 at depth 32", &text, 16357, &mut tree, 4);
+    put(&mut text, 16353, b"><a");
+    read_front(b"node 4,097 at depth 33", &text, 16356, &mut tree, 4);
 }
 
 // ---- trees, refusal 10, with two tags
@@ -212,6 +231,32 @@ fn nodes() {
         b"a tag between texts",
         &[1u32, 4, 0, 0, 65, 1, 0, 0, 2, 1, 0, 0, 66, 1, 0, 0],
     );
+}
+
+// Writes that many nodes of tag 1, as far as the slice reaches, each but the last with the next as its only child.
+fn chain(words: &mut [u32], nodes: u32) {
+    let mut size = nodes;
+    let mut at = 0;
+    while 0 < size {
+        if words.len() - at < 4 {
+            return;
+        }
+        words[at] = 1;
+        words[at + 1] = size;
+        at += 4;
+        size -= 1;
+    }
+}
+
+fn deep_trees() {
+    let mut deepest = [0u32; 128];
+    chain(&mut deepest, 32);
+    tree(b"a tree of depth 32", &deepest);
+    let mut over = [0u32; 132];
+    chain(&mut over, 33);
+    tree(b"a tree of depth 33", &over);
+    over[128] = 66;
+    tree(b"a text under depth 32", &over);
 }
 
 // ---- writing, refusals 8, 1, 10, 11, 24 and 22
@@ -279,8 +324,10 @@ fn main() {
     orders();
     long_texts();
     many_nodes();
+    many_deep_nodes();
     lengths();
     nodes();
+    deep_trees();
     forms();
     long_forms();
 }

@@ -1,4 +1,3 @@
-mod Bytes
 mod TextLaws
 mod NodeLaws
 mod TagLaws

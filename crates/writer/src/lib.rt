@@ -5,10 +5,10 @@ ghost use mathlib.Core.Path.{_≡_};
 ghost use Prim.Native.Nat.{_+_, _*_, _/_, _≤_, _<_};
 ghost use lib.ListN.{length};
 ghost use Rattle.model.specs.Answers.{said, answer-of};
-ghost use Rattle.model.specs.Bytes.{white, is, class-of, digit-byte, kind-of-text};
+ghost use Rattle.model.specs.Bytes.{kind-of-text};
 ghost use Rattle.model.specs.Calls.{write-said, write-out};
 ghost use Rattle.model.specs.Names.{name-of};
-ghost use Rattle.model.specs.Written.{source-bytes, text-byte, trimmed-text};
+ghost use Rattle.model.specs.Written.{source-bytes, trimmed-text};
 ghost use Rattle.writer.specs.Nodes.{node-at, span-of, good-node, own-bytes, measured, Tag, Tags};
 ghost use Rattle.writer.specs.Forms.{Put, empty-tag, start-tag, end-tag, Ready, Puts};
 
@@ -108,40 +108,20 @@ fn name_of<'a>(list: &'a [u8], starts: &[usize; ENTRIES], tag: u32) -> &'a [u8]
 
 // ---- 11: text words that are wrong
 
-fn is_white(byte: u8) -> bool
-    ensures { λ r. ⌜ r ≡ is (class-of byte) white ⌝ }
-{
-    (byte == b' ') | (byte == b'\t') | (byte == b'\n') | (byte == b'\r')
-}
-
-fn is_digit(byte: u8) -> bool
-    ensures { λ r. ⌜ r ≡ digit-byte byte ⌝ }
-{
-    (b'0' <= byte) & (byte <= b'9')
-}
-
-// Whether a text may hold the byte: by comparisons and not by a table, so that a loop can take many bytes at once.
-fn in_text(byte: u8) -> bool
-    ensures { λ r. ⌜ r ≡ text-byte byte ⌝ }
-{
-    let plain = (b'!' <= byte) & (byte <= b'~') & (byte != b'&') & (byte != b'<') & (byte != b'>');
-    plain | is_white(byte)
-}
-
 fn trimmed(s: &[u8]) -> bool
     ensures { λ r. ⌜ r ≡ trimmed-text (now (s .entry)) ⌝ }
 {
     if s.len() == 0 {
         return false;
     }
-    if is_white(s[0]) | is_white(s[s.len() - 1]) {
+    if chars::is_white(s[0]) | chars::is_white(s[s.len() - 1]) {
         return false;
     }
-    // no way out of the loop, for the same reason
+    // no way out of the loop, so that many bytes are tested together
     let mut good = true;
     let mut i = 0;
     while i < s.len() {
-        good = good & in_text(s[i]);
+        good = good & chars::in_text(s[i]);
         i += 1;
     }
     good
@@ -153,7 +133,7 @@ fn kind(s: &[u8]) -> u32
 {
     let mut i = 0;
     while i < s.len() {
-        if !is_digit(s[i]) {
+        if !chars::is_digit(s[i]) {
             return OTHER_TEXT;
         }
         i += 1;

@@ -7,6 +7,7 @@ use lib.ListN.{length, drop}
 use Rattle.model.specs.Names.{lines, number-from, tag-of}
 use Rattle.names.proofs.LineLaws.{Cut, line-cut, number-here, number-later, number-none}
 use Rattle.names.proofs.Scan.{lines-end}
+use Rattle.names.proofs.ChainLaws.{compared}
 use Rattle.names.proofs.find.Statement.{statement}
 use Rattle.names.proofs.find.Tie as tie
 
@@ -29,9 +30,10 @@ find-spec =
     (λ c. (omega arith, refl))
     (λ c κs. search needs)
     (λ c κs. search needs)
+    (λ c κs. search needs)
     (λ c. search needs)
-    (λ c. sym (c .before .before .before .before .loop .inv .1 ∙ number-here _ _ (line-ends (c .before .before) .cut) (c .before .holds .ensures) (c .if1 .taken)))
+    (λ c. sym (c .before .before .before .before .before .loop .inv .1 ∙ number-here _ _ (line-ends (c .before .before .before) .cut) (compared _ (c .before .before .bare .ensures) (c .before .same-bytes .ensures) (c .if1 .taken))))
     (λ c. search needs)
-    (λ c. omega (arith, line-ends (c .before .before)))
-    (λ c. (omega (arith, line-ends (c .before .before)), c .before .before .before .before .loop .inv .1 ∙ number-later _ _ (line-ends (c .before .before) .cut) (c .before .holds .ensures) (c .if1 .left)))
+    (λ c. omega (arith, line-ends (c .before .before .before)))
+    (λ c. (omega (arith, line-ends (c .before .before .before)), c .before .before .before .before .before .loop .inv .1 ∙ number-later _ _ (line-ends (c .before .before .before) .cut) (compared _ (c .before .before .bare .ensures) (c .before .same-bytes .ensures) (c .if1 .left))))
     (λ c. sym (c .before .loop .inv .1 ∙ number-none _ _ (lines-end _ _ (c .loop-test .left)))))

@@ -2,8 +2,8 @@
 use native.Mathlib.Omega.{arith}
 use borrow.Author.Needs.{needs}
 use borrow.Author.Tests.{not-true, not-false}
-use Rattle.reader.proofs.ChainLaws.{compared}
-use Rattle.reader.proofs.Readings.{top-inside, top-tag-some, top-tag-listed, end-open-stuck, end-other, end-gap-stuck, end-closes}
+use Rattle.names.proofs.ChainLaws.{compared}
+use Rattle.reader.proofs.Readings.{top-inside, end-open-stuck, end-other, end-gap-stuck, end-closes}
 use Rattle.reader.proofs.end_tag.Statement.{statement}
 use Rattle.reader.proofs.end_tag.Tie as tie
 
@@ -17,7 +17,7 @@ end-tag-spec =
     (λ c κs. search needs)
     (λ c. omega (arith, top-inside (c .before .before .before .before .before .pre .1 .1 .1) (c .before .before .before .before .before .pre .1 .1 .0), c .before .before .before .before .before .pre .1 .1 .1 .few))
     (λ c. omega (arith, top-inside (c .before .before .before .before .before .pre .1 .1 .1) (c .before .before .before .before .before .pre .1 .1 .0), c .before .before .before .before .before .pre .1 .1 .1 .few))
-    (λ c κs. (c .before .before .before .before .before .before .pre .1 .0, (top-tag-some (c .before .before .before .before .before .before .pre .1 .1 .1) (c .before .before .before .before .before .before .pre .1 .1 .0), top-tag-listed (c .before .before .before .before .before .before .pre .1 .1 .1) (c .before .before .before .before .before .before .pre .1 .1 .0))))
+    (λ c κs. search needs)
     (λ c. search needs)
     (λ c. search needs)
     (λ c. omega (arith, c .before .before .skip .ensures .1))

@@ -1,9 +1,9 @@
 -- `reader::scan_form` meets its contract.
-use mathlib.Core.Path.{refl}
 use native.Mathlib.Omega.{arith}
 use borrow.Author.Needs.{needs}
 use Rattle.names.proofs.IndexLaws.{indexed}
-use Rattle.reader.specs.Chains.{Listing}
+use Rattle.names.proofs.ChainLaws.{chained-none}
+use Rattle.reader.specs.Listing.{Listing}
 use Rattle.reader.proofs.scan_form.Statement.{statement}
 use Rattle.reader.proofs.scan_form.Tie as tie
 
@@ -16,7 +16,7 @@ scan-form-spec =
     (tie.spec
     (λ c κs. search needs)
     (λ c κs. search needs)
-    (λ c κs. (listing (c .before .before .before), (c .before .before .before .index .ensures .0, (refl, refl))))
+    (λ c κs. (listing (c .before .before .before) .indexed, (c .before .before .before .index .ensures .0, chained-none _)))
     (λ c κs. (c .before .before .before .before .before .before .before .before .before .before .before .classes .ensures, (listing (c .before .before .before .before .before .before .before .before .before), (c .before .before .before .before .before .chain .ensures, c .before .before .before .before .before .before .before .before .before .before .before .before .before .before .pre .1))))
     (λ c. search needs)
     (λ c. search needs)

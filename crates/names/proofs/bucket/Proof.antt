@@ -1,13 +1,13 @@
--- `reader::bucket` meets its contract: the bytes from i on give the bucket that the name gives.
+-- `names::bucket` meets its contract: the bytes from i on give the bucket that the name gives.
 use mathlib.Core.Path.{_≡_, refl, sym, _∙_}
 use Prim.Native.Nat.{_-_, _<_}
 use native.Mathlib.Omega.{arith}
 use lib.ListN.{length, drop}
 use borrow.Author.Needs.{needs}
-use Rattle.reader.specs.Chains.{bucket-from, bucket}
-use Rattle.reader.proofs.ChainLaws.{bucket-on, bucket-end}
-use Rattle.reader.proofs.bucket.Statement.{statement}
-use Rattle.reader.proofs.bucket.Tie as tie
+use Rattle.names.specs.Chains.{bucket-from, bucket}
+use Rattle.names.proofs.ChainLaws.{bucket-on, bucket-end}
+use Rattle.names.proofs.bucket.Statement.{statement}
+use Rattle.names.proofs.bucket.Tie as tie
 
 abbrev Inv-loop : tie.InvT-loop
 Inv-loop name hash₀ i₀ hash i = (hash < 64) × (bucket-from hash (drop i name) ≡ bucket name)

@@ -32,9 +32,9 @@ unfolding agree every from is class-of class-number digit-byte
 digit-test = same-test (λ b. leb 48 b && leb b 57) digit-byte refl
 
 -- white, or any of 33 to 126 but &, < and >
-abbrev plain : ℕ → Bool
-plain b = (((leb 33 b && leb b 126) && not (eqb b 38)) && not (eqb b 60)) && not (eqb b 62)
+abbrev allowed : ℕ → Bool
+allowed b = (((((eqb b 9 || eqb b 10) || eqb b 13) || leb 32 b) && leb b 126) && not (eqb b 38)) && not (eqb b 60) && not (eqb b 62)
 
-pub text-test : (b : ℕ) → b < 256 → (plain b || is (class-of b) white) ≡ text-byte b
+pub text-test : (b : ℕ) → b < 256 → allowed b ≡ text-byte b
 unfolding agree every from is class-of class-number text-byte
-text-test = same-test (λ b. plain b || is (class-of b) white) text-byte refl
+text-test = same-test allowed text-byte refl
