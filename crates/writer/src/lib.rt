@@ -94,7 +94,8 @@ fn node_at(tree: &[u32], i: usize) -> Node
     }
 }
 
-// The name of a tag, by the index of a name list.
+// The name of a tag, by the index of a name list. A tree that passed its check has no other tags, so nothing is tested here, as
+// `names::name_of` does for any number.
 fn name_of<'a>(list: &'a [u8], starts: &[usize; ENTRIES], tag: u32) -> &'a [u8]
     requires { ⌜ Tag (now list) (now starts) tag ⌝ }
     ensures { λ r. ⌜ now r ≡ name-of (now (list .entry)) tag ⌝ }
