@@ -21,7 +21,7 @@ use std::process::ExitCode;
 use std::time::Instant;
 
 /// So many inputs are drawn for each call: two minutes on one core.
-const INPUTS: u64 = 50_000;
+const INPUTS: u64 = 160_000;
 
 struct Options {
     inputs: u64,
