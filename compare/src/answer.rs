@@ -30,6 +30,9 @@ impl Answer {
 
 /// Nine calls and the program, as functions on slices. A buffer is lent as the last argument.
 pub trait Implementation {
+    /// What a report calls it.
+    fn name(&self) -> &'static str;
+
     fn check_names(&self, list: &[u8]) -> Answer;
     fn read(&self, list: &[u8], text: &[u8], tree: &mut [u32]) -> Answer;
     fn check_tree(&self, tags: u32, tree: &[u32]) -> Answer;
@@ -40,4 +43,9 @@ pub trait Implementation {
     fn swap(&self, sheet: &[u32], out: &mut [u32]) -> Answer;
     fn join(&self, first: &[u32], second: &[u32], out: &mut [u32]) -> Answer;
     fn formcheck(&self, list: &[u8], file: &[u8], text: &[u8]) -> Answer;
+
+    /// The rule broken in the last call, where the implementation knows it.
+    fn why(&self) -> &'static str {
+        ""
+    }
 }

@@ -1,32 +1,34 @@
-//! Generated inputs for document 01's calls, run on the reference: the ten cases, the laws, and
-//! histograms of the answers. No second implementation is linked, so nothing is compared with it.
+//! Runs the linked library beside the reference on document 01's cases, on the laws between the
+//! calls, on each call's sweep and on drawn inputs, and ends at the first difference.
 //!
-//!     compare [inputs=N] [first=SEED] [call=NAME] [trace]
-//!         runs each call's sweep and N drawn inputs, and prints histograms of the answers
+//!     compare [inputs=N] [first=SEED] [call=NAME] [answers] [trace]
+//!         answers: prints also how often each answer was given; trace: each input before it runs
+//!     compare damage=NAME
+//!         the same for one call of a damaged reference: the difference must be found
 //!     compare show call=NAME first=SEED
 //!     compare show call=NAME sweep=INDEX
-//!         prints one input and its answer
+//!         prints one input and its two answers
 
-mod answer;
-mod cases;
-mod compare;
-mod generate;
-mod laws;
-mod reference;
-#[cfg(test)]
-mod tests;
-
-use compare::Source;
-use generate::{Call, Input, CALLS};
-use laws::Tally;
-use reference::Reference;
+use compare::answer::Implementation;
+use compare::beside;
+use compare::cases;
+use compare::damage::{Damage, Damaged, DAMAGES};
+use compare::generate::{Call, CALLS};
+use compare::laws::{self, Tally};
+use compare::linked::Linked;
+use compare::reference::Reference;
 use std::process::ExitCode;
 use std::time::Instant;
+
+/// So many inputs are drawn for each call: two minutes on one core.
+const INPUTS: u64 = 160_000;
 
 struct Options {
     inputs: u64,
     first: u64,
-    calls: Vec<Call>,
+    call: Option<Call>,
+    damage: Option<Damage>,
+    answers: bool,
     trace: bool,
     show: bool,
     sweep: Option<usize>,
@@ -34,9 +36,11 @@ struct Options {
 
 fn options() -> Result<Options, String> {
     let mut options = Options {
-        inputs: 50_000,
+        inputs: INPUTS,
         first: 0,
-        calls: CALLS.to_vec(),
+        call: None,
+        damage: None,
+        answers: false,
         trace: false,
         show: false,
         sweep: None,
@@ -47,7 +51,9 @@ fn options() -> Result<Options, String> {
         match key {
             "inputs" => options.inputs = number()?,
             "first" => options.first = number()?,
-            "call" => options.calls = vec![call(value)?],
+            "call" => options.call = Some(named("call", value, CALLS, Call::name)?),
+            "damage" => options.damage = Some(named("damage", value, DAMAGES, Damage::name)?),
+            "answers" => options.answers = true,
             "trace" => options.trace = true,
             "show" => options.show = true,
             "sweep" => options.sweep = Some(number()? as usize),
@@ -57,11 +63,17 @@ fn options() -> Result<Options, String> {
     Ok(options)
 }
 
-fn call(name: &str) -> Result<Call, String> {
-    let found = CALLS.into_iter().find(|call| call.name() == name);
+/// The one of some things that has a name.
+fn named<T: Copy, const N: usize>(
+    what: &str,
+    name: &str,
+    all: [T; N],
+    name_of: fn(T) -> &'static str,
+) -> Result<T, String> {
+    let found = all.into_iter().find(|&one| name_of(one) == name);
     found.ok_or_else(|| {
-        let names: Vec<&str> = CALLS.iter().map(|call| call.name()).collect();
-        format!("no call {name}; the calls are {}", names.join(", "))
+        let names = all.map(name_of).join(", ");
+        format!("no {what} {name}; there are {names}")
     })
 }
 
@@ -78,74 +90,97 @@ fn main() -> ExitCode {
 fn work(options: &Options) -> Result<(), String> {
     let reference = Reference::default();
     if options.show {
-        show(&reference, options);
+        let calls = options.call.map_or(CALLS.to_vec(), |call| vec![call]);
+        for call in calls {
+            show(&reference, call, options);
+        }
         return Ok(());
     }
-    check_itself(&reference, options)?;
-    for &call in &options.calls {
-        let seeds = options.first..options.first + options.inputs;
-        run_inputs(&reference, call, "sweep", compare::swept(call), options)?;
-        run_inputs(
-            &reference,
-            call,
-            "drawn",
-            compare::drawn(call, seeds),
-            options,
-        )?;
+    if let Some(damage) = options.damage {
+        return compare_call(&Linked, &Damaged::new(damage), damage.call(), options);
     }
-    println!("the reference ran alone");
-    Ok(())
+    if let Some(call) = options.call {
+        return compare_call(&reference, &Linked, call, options);
+    }
+    check_alone(&reference, options)?;
+    check_alone(&Linked, options)?;
+    for call in CALLS {
+        compare_call(&reference, &Linked, call, options)?;
+    }
+    try_damages(options)
 }
 
-/// Runs some inputs of a call and prints the histogram.
-fn run_inputs(
-    reference: &Reference,
+/// Compares a call of two implementations, and prints one line.
+fn compare_call(
+    first: &dyn Implementation,
+    second: &dyn Implementation,
     call: Call,
-    kind: &str,
-    inputs: impl Iterator<Item = (Source, Input)>,
     options: &Options,
 ) -> Result<(), String> {
     let start = Instant::now();
-    let histogram = compare::compare(reference, None, call, inputs, options.trace)?;
-    let seconds = start.elapsed().as_secs_f64();
-    let (name, count) = (call.name(), histogram.inputs());
-    println!("{name}, {kind}: {count} inputs, {seconds:.1} s");
-    print!("{}", histogram.lines());
+    let seeds = options.first..options.first + options.inputs;
+    let inputs = beside::swept(call);
+    let swept = beside::compare(first, second, call, inputs, options.trace)?;
+    let inputs = beside::drawn(call, seeds);
+    let drawn = beside::compare(first, second, call, inputs, options.trace)?;
+    println!(
+        "{:<16}{:>8} inputs in order, {:>8} drawn: no difference ({:.1} s)",
+        call.name(),
+        swept.inputs(),
+        drawn.inputs(),
+        start.elapsed().as_secs_f64()
+    );
+    if options.answers {
+        print!("{}{}", swept.lines(), drawn.lines());
+    }
     Ok(())
 }
 
-/// The ten cases and the laws, by the reference alone.
-fn check_itself(reference: &Reference, options: &Options) -> Result<(), String> {
-    cases::check(reference)?;
-    println!("cases 1 to 10 hold");
+/// The ten cases and the laws, by one implementation alone.
+fn check_alone(calls: &dyn Implementation, options: &Options) -> Result<(), String> {
     let start = Instant::now();
+    cases::check(calls)?;
     let mut tally = Tally::default();
     for seed in options.first..options.first + options.inputs {
         laws::words_of_sheet(seed)?;
-        laws::round_trip(reference, seed, &mut tally)?;
-        laws::swap_and_join(reference, seed, &mut tally)?;
+        laws::round_trip(calls, seed, &mut tally)?;
+        laws::swap_and_join(calls, seed, &mut tally)?;
     }
-    println!(
-        "laws hold, {:.1} s: {tally:?}",
-        start.elapsed().as_secs_f64()
-    );
+    let (name, seconds) = (calls.name(), start.elapsed().as_secs_f64());
+    println!("{name}: cases 1 to 10 and the laws hold ({seconds:.1} s)");
+    if options.answers {
+        println!("  {tally:?}");
+    }
     Ok(())
 }
 
-/// Prints one input and what the reference answers.
-fn show(reference: &Reference, options: &Options) {
-    for &call in &options.calls {
-        let seeds = options.first..options.first + 1;
-        let found = match options.sweep {
-            Some(index) => compare::swept(call).nth(index),
-            None => compare::drawn(call, seeds).next(),
-        };
-        let Some((source, input)) = found else {
-            println!("{}: no such input", call.name());
-            continue;
-        };
-        print!("{}", compare::report("input", call, source, &input));
-        let outcome = compare::run(reference, &input);
-        println!("reference: {:?} {}", outcome.answer, reference.why());
+/// The comparison itself: each damage must be found.
+fn try_damages(options: &Options) -> Result<(), String> {
+    let seeds = options.first..options.first + options.inputs;
+    for damage in DAMAGES {
+        let call = damage.call();
+        let inputs = beside::drawn(call, seeds.clone());
+        let compared = beside::compare(&Linked, &Damaged::new(damage), call, inputs, false);
+        if compared.is_ok() {
+            return Err(format!("damage {} isn't found", damage.name()));
+        }
+        println!("damage {}: found", damage.name());
     }
+    Ok(())
+}
+
+/// Prints one input of a call and what the reference and the library answer.
+fn show(reference: &Reference, call: Call, options: &Options) {
+    let seeds = options.first..options.first + 1;
+    let found = match options.sweep {
+        Some(index) => beside::swept(call).nth(index),
+        None => beside::drawn(call, seeds).next(),
+    };
+    let Some((source, input)) = found else {
+        return println!("{}: no such input", call.name());
+    };
+    print!("{}", beside::report("input", call, source, &input));
+    let answer = beside::run(reference, &input).answer;
+    println!("reference: {answer:?} {}", reference.why());
+    println!("library: {:?}", beside::run(&Linked, &input).answer);
 }

@@ -12,7 +12,7 @@ impl Random {
         Random((mixed ^ (mixed >> 31)).max(1))
     }
 
-    pub fn next(&mut self) -> u64 {
+    pub fn draw(&mut self) -> u64 {
         self.0 ^= self.0 >> 12;
         self.0 ^= self.0 << 25;
         self.0 ^= self.0 >> 27;
@@ -21,16 +21,16 @@ impl Random {
 
     /// A 32-bit word.
     pub fn word(&mut self) -> u32 {
-        (self.next() >> 32) as u32
+        (self.draw() >> 32) as u32
     }
 
     pub fn byte(&mut self) -> u8 {
-        (self.next() >> 56) as u8
+        (self.draw() >> 56) as u8
     }
 
     /// A number below a count that isn't 0.
     pub fn below(&mut self, count: usize) -> usize {
-        ((self.next() >> 16) % count as u64) as usize
+        ((self.draw() >> 16) % count as u64) as usize
     }
 
     /// A number from low to high, both included.
@@ -71,8 +71,8 @@ impl Random {
             1 => all,
             2 => 1 << self.number(width),
             3 => 1 << (width - 1) | 1,
-            4 => self.next() & self.next() & all,
-            _ => self.next() & all,
+            4 => self.draw() & self.draw() & all,
+            _ => self.draw() & all,
         }
     }
 

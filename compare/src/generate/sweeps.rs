@@ -70,20 +70,27 @@ fn probes() -> impl Iterator<Item = Input> {
     })
 }
 
-/// Every tree of up to three nodes with any small symbols and sizes, for two tags, and every tree
-/// of four nodes with fewer symbols, for one.
+/// Every tree of up to three nodes with any small symbols and sizes, for two tags; every tree of
+/// four nodes with fewer symbols, for one; and trees about the symbols of texts for no tags and for
+/// more than 64.
 fn small_trees() -> impl Iterator<Item = Input> {
     let any = pairs(&[0, 1, 2, 3, 64, 65, 66, 67], &[0, 1, 2, 3, 4]);
     let fewer = pairs(&[1, 65, 66], &[1, 2, 3, 4, 5]);
     let small = strings(any, 3).map(|nodes| (2, nodes));
     let four = strings(fewer, 4).map(|nodes| (1, nodes));
-    small.chain(four).map(|(tags, nodes)| Input::CheckTree {
-        tags,
-        tree: nodes
-            .iter()
-            .flat_map(|&(symbol, size)| [symbol, size, 0, 0])
-            .collect(),
-    })
+    let texts = pairs(&[1, 64, 65, 66, 67], &[1, 2, 3]);
+    let odd_tags = [0, 65, 66, 67, u32::MAX].into_iter();
+    let odd = odd_tags.flat_map(|tags| strings(texts, 3).map(move |nodes| (tags, nodes)));
+    small
+        .chain(four)
+        .chain(odd)
+        .map(|(tags, nodes)| Input::CheckTree {
+            tags,
+            tree: nodes
+                .iter()
+                .flat_map(|&(symbol, size)| [symbol, size, 0, 0])
+                .collect(),
+        })
 }
 
 /// All pairs, kept for the whole run.

@@ -4,14 +4,19 @@ use super::forms::{any_tag, chain, grow, nodes, of_size, small, Growth, Item};
 use super::random::Random;
 use crate::reference::tree::{words, Node};
 
-/// A number of tags, often at a boundary.
-pub fn any_tags(random: &mut Random) -> u32 {
-    random.pick(&[1, 2, 3, 4, 5, 7, 31, 32, 63, 64])
+/// A number of tags, often at a boundary; seldom none, or more than a list or sheet can have.
+fn any_tags(random: &mut Random) -> u32 {
+    if random.chance(8) {
+        random.pick(&[0, 65, 65, 66, 66, 67, 70, u32::MAX])
+    } else {
+        random.pick(&[1, 2, 3, 4, 5, 7, 31, 32, 63, 64])
+    }
 }
 
 /// A tree's tags and words, valid or damaged.
 pub fn any_tree(random: &mut Random) -> (u32, Vec<u32>) {
-    let tags = any_tags(random);
+    let given = any_tags(random);
+    let tags = given.clamp(1, 70);
     let form = match random.weighted(&[70, 18, 4]) {
         0 => small(random, tags),
         1 => {
@@ -32,7 +37,7 @@ pub fn any_tree(random: &mut Random) -> (u32, Vec<u32>) {
     if random.chance(60) {
         damage(random, tags, &mut tree);
     }
-    (tags, tree)
+    (given, tree)
 }
 
 /// The words of a form, its text words as they are, 0 or anything.

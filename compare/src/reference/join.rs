@@ -137,7 +137,7 @@ fn lifted_words(step: &Step, others: u64) -> u64 {
 
 /// "Rules pair up, S's order outermost, if both are kind one with equal text kind, kind two with
 /// equal tag, or kind three."
-fn pair_up(left: &Rule, right: &Rule) -> bool {
+pub fn pair_up(left: &Rule, right: &Rule) -> bool {
     match (left, right) {
         (Rule::Text { kind, .. }, Rule::Text { kind: other, .. }) => kind == other,
         (Rule::Element { tag, .. }, Rule::Element { tag: other, .. }) => tag == other,

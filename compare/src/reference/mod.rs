@@ -48,11 +48,6 @@ pub struct Reference {
 }
 
 impl Reference {
-    /// The rule broken in the last call, or nothing if that call wasn't refused.
-    pub fn why(&self) -> &'static str {
-        self.why.get()
-    }
-
     fn settle(&self, result: Result<Answer, Fault>) -> Answer {
         match result {
             Ok(answer) => {
@@ -138,6 +133,10 @@ fn formcheck_call(list: &[u8], file: &[u8], text: &[u8]) -> Result<Answer, Fault
 }
 
 impl Implementation for Reference {
+    fn name(&self) -> &'static str {
+        "reference"
+    }
+
     fn check_names(&self, list: &[u8]) -> Answer {
         self.settle(names::parse(list).map(|names| count(names.len())))
     }
@@ -176,5 +175,9 @@ impl Implementation for Reference {
 
     fn formcheck(&self, list: &[u8], file: &[u8], text: &[u8]) -> Answer {
         self.settle(formcheck_call(list, file, text))
+    }
+
+    fn why(&self) -> &'static str {
+        self.why.get()
     }
 }

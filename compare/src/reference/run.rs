@@ -137,7 +137,7 @@ impl Run {
 
 /// Whether an order part fits, and how many children it reads, "up to and with the child that
 /// empties its set of positions". "Reading begins with the set of position 0 alone."
-fn read_order(order: &Order, child_states: &[u32]) -> (bool, usize) {
+pub fn read_order(order: &Order, child_states: &[u32]) -> (bool, usize) {
     let mut set: u64 = 1;
     let mut read = 0;
     for &state in child_states {

@@ -17,7 +17,7 @@ pub struct Node {
 }
 
 impl Node {
-    /// A text; only asked where the symbol is allowed.
+    /// A text; only asked where the symbol is allowed. Node 0 isn't one, whatever its symbol.
     pub fn is_text(&self) -> bool {
         self.symbol == INTEGER_TEXT || self.symbol == OTHER_TEXT
     }
@@ -62,7 +62,7 @@ fn check_shape(tags: u32, nodes: &[Node]) -> Result<(), Fault> {
             open.pop();
         }
         check_node(tags, nodes, number, &open).map_err(|why| fault(10, number, why))?;
-        if !nodes[number].is_text() {
+        if number == 0 || !nodes[number].is_text() {
             open.push(number + nodes[number].size as usize);
         }
     }
@@ -70,7 +70,8 @@ fn check_shape(tags: u32, nodes: &[Node]) -> Result<(), Fault> {
 }
 
 /// One node beside the nodes before it, all of which passed. The parent is the innermost open
-/// element.
+/// element. Any number of tags may be given, and document 01 speaks of 1 to 64: among 65 tags or
+/// more 65 and 66 are texts all the same, but at node 0, which is a tag.
 fn check_node(
     tags: u32,
     nodes: &[Node],
@@ -91,7 +92,7 @@ fn check_node(
     if number as u64 + u64::from(node.size) > parent_end as u64 {
         return Err("end past the parent's");
     }
-    if is_tag && open.len() == MOST_DEPTH {
+    if !node.is_text() && open.len() == MOST_DEPTH {
         return Err("depth 33");
     }
     if node.is_text() && node.size != 1 {

@@ -1,7 +1,8 @@
 //! The generators reach every answer and the limits, and a difference is found.
 
 use crate::answer::{Answer, Implementation};
-use crate::compare::{compare, drawn, run, swept};
+use crate::beside::{compare, drawn, run, swept};
+use crate::damage::{Damaged, DAMAGES};
 use crate::generate::{input, Call, Input, CALLS};
 use crate::laws::{self, Tally};
 use crate::reference::join::{measure, Size};
@@ -113,6 +114,24 @@ fn limits_are_reached() {
     }));
 }
 
+/// Tree checks with no tags and with more than 64, passed where they can be.
+#[test]
+fn odd_numbers_of_tags_occur() {
+    let occurs = |wanted: fn(u32, Answer) -> bool| {
+        occurs(Call::CheckTree, |input, answer| match input {
+            Input::CheckTree { tags, .. } => wanted(*tags, answer),
+            _ => false,
+        })
+    };
+    assert!(occurs(|tags, _| tags == 0));
+    assert!(occurs(
+        |tags, answer| tags > 64 && matches!(answer, Answer::Count(_))
+    ));
+    assert!(occurs(
+        |tags, answer| tags > 64 && matches!(answer, Answer::Refusal(..))
+    ));
+}
+
 /// Sheets whose joint sheet is over a limit by one.
 #[test]
 fn joint_sheets_one_over_a_limit() {
@@ -176,101 +195,17 @@ fn laws_hold() {
     );
 }
 
-/// The reference with one fault, to see that the comparison finds it.
-struct Faulty {
-    reference: Reference,
-    fault: Fault,
-}
-
-#[derive(Clone, Copy, PartialEq)]
-enum Fault {
-    None,
-    LooksOneMore,
-    WordPastAnswer,
-    StatesKeptOn23,
-    ZeroesOnRefusal,
-}
-
-impl Implementation for Faulty {
-    fn check_names(&self, list: &[u8]) -> Answer {
-        self.reference.check_names(list)
-    }
-
-    fn read(&self, list: &[u8], text: &[u8], tree: &mut [u32]) -> Answer {
-        let answer = self.reference.read(list, text, tree);
-        match answer {
-            Answer::Refusal(..) if self.fault == Fault::ZeroesOnRefusal => tree.fill(0),
-            _ => {}
-        }
-        answer
-    }
-
-    fn check_tree(&self, tags: u32, tree: &[u32]) -> Answer {
-        self.reference.check_tree(tags, tree)
-    }
-
-    fn write(&self, list: &[u8], text: &[u8], tree: &[u32], out: &mut [u8]) -> Answer {
-        self.reference.write(list, text, tree, out)
-    }
-
-    fn check_sheet(&self, sheet: &[u32]) -> Answer {
-        self.reference.check_sheet(sheet)
-    }
-
-    fn sheet_from_file(&self, file: &[u8], words: &mut [u32]) -> Answer {
-        self.reference.sheet_from_file(file, words)
-    }
-
-    fn judge(&self, sheet: &[u32], tree: &[u32], states: &mut [u32]) -> Answer {
-        let before = states.to_vec();
-        let answer = self.reference.judge(sheet, tree, states);
-        match (answer, self.fault) {
-            (Answer::Refusal(23, _), Fault::StatesKeptOn23) => states.copy_from_slice(&before),
-            (Answer::Stuck(node, looks), Fault::LooksOneMore) => {
-                return Answer::Stuck(node, looks + 1)
-            }
-            _ => {}
-        }
-        answer
-    }
-
-    fn swap(&self, sheet: &[u32], out: &mut [u32]) -> Answer {
-        let answer = self.reference.swap(sheet, out);
-        if let (Answer::Count(count), Fault::WordPastAnswer) = (answer, self.fault) {
-            if let Some(word) = out.get_mut(count as usize) {
-                *word = 0;
-            }
-        }
-        answer
-    }
-
-    fn join(&self, first: &[u32], second: &[u32], out: &mut [u32]) -> Answer {
-        self.reference.join(first, second, out)
-    }
-
-    fn formcheck(&self, list: &[u8], file: &[u8], text: &[u8]) -> Answer {
-        self.reference.formcheck(list, file, text)
-    }
-}
-
+/// The comparison finds every damage, and nothing where there is none.
 #[test]
 fn differences_are_found() {
-    for (call, fault) in [
-        (Call::Judge, Fault::LooksOneMore),
-        (Call::Judge, Fault::StatesKeptOn23),
-        (Call::Swap, Fault::WordPastAnswer),
-        (Call::Read, Fault::ZeroesOnRefusal),
-    ] {
-        let found = |fault: Fault| {
-            let faulty = Faulty {
-                reference: Reference::default(),
-                fault,
-            };
-            let reference = Reference::default();
-            compare(&reference, Some(&faulty), call, drawn(call, 0..200), false).is_err()
+    let reference = Reference::default();
+    for damage in DAMAGES {
+        let call = damage.call();
+        let same = |second: &dyn Implementation| {
+            compare(&reference, second, call, drawn(call, 0..200), false).is_ok()
         };
-        assert!(found(fault));
-        assert!(!found(Fault::None));
+        assert!(!same(&Damaged::new(damage)), "{damage:?}");
+        assert!(same(&Reference::default()));
     }
 }
 
@@ -279,6 +214,6 @@ fn sweeps_run() {
     let reference = Reference::default();
     for call in CALLS {
         let some = swept(call).step_by(97);
-        assert!(compare(&reference, None, call, some, false).is_ok());
+        assert!(compare(&reference, &reference, call, some, false).is_ok());
     }
 }

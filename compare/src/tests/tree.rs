@@ -62,6 +62,20 @@ fn symbols() {
     assert_eq!(check(63, &[(64, 1)]), refusal(10, 0));
 }
 
+/// Numbers of tags that no list or sheet has.
+#[test]
+fn odd_numbers_of_tags() {
+    assert_eq!(check(0, &[(1, 1)]), refusal(10, 0));
+    assert_eq!(check(0, &[(66, 1)]), refusal(10, 0));
+    assert_eq!(check(67, &[(67, 2), (67, 1)]), Answer::Count(2));
+    assert_eq!(check(u32::MAX, &[(u32::MAX, 1)]), Answer::Count(1));
+    // 65 and 66 are texts below node 0, at any depth, and a tag at node 0.
+    assert_eq!(check(66, &[(65, 2), (66, 1)]), Answer::Count(2));
+    assert_eq!(check(66, &[(1, 3), (65, 1), (66, 1)]), refusal(10, 2));
+    assert_eq!(check(66, &[(1, 3), (65, 2), (1, 1)]), refusal(10, 1));
+    assert_eq!(check(66, &nest(32, &[(66, 1)])), Answer::Count(33));
+}
+
 #[test]
 fn node_0() {
     assert_eq!(check(1, &[(65, 1)]), refusal(10, 0));

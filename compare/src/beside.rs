@@ -2,7 +2,6 @@
 
 use crate::answer::{Answer, Implementation};
 use crate::generate::{input, sweeps, Call, Input};
-use crate::reference::Reference;
 use std::collections::BTreeMap;
 use std::fmt::{self, Write};
 use std::ops::Range;
@@ -160,11 +159,10 @@ pub fn swept(call: Call) -> impl Iterator<Item = (Source, Input)> {
     inputs.map(|(index, input)| (Source::Sweep(index), input))
 }
 
-/// Runs a call's inputs on the reference and, if there is one, a second implementation; ends with a
-/// report at the first difference.
+/// Runs a call's inputs on two implementations; ends with a report at the first difference.
 pub fn compare(
-    reference: &Reference,
-    second: Option<&dyn Implementation>,
+    first: &dyn Implementation,
+    second: &dyn Implementation,
     call: Call,
     inputs: impl Iterator<Item = (Source, Input)>,
     trace: bool,
@@ -174,27 +172,28 @@ pub fn compare(
         if trace {
             eprintln!("{}, {source}", call.name());
         }
-        let expected = run(reference, &input);
-        histogram.add(expected.answer, reference.why());
+        let expected = run(first, &input);
+        histogram.add(expected.answer, first.why());
         if let Err(rule) = check_buffer(&input, &expected) {
-            let what = format!("the reference breaks: {rule}");
+            let what = format!("the {} breaks: {rule}", first.name());
             return Err(report(&what, call, source, &input));
         }
-        if let Some(second) = second {
-            let got = run(second, &input);
-            if got != expected {
-                let what = difference(&expected, &got);
-                return Err(report(&what, call, source, &input));
-            }
+        let got = run(second, &input);
+        if got != expected {
+            let what = difference([first.name(), second.name()], &expected, &got);
+            return Err(report(&what, call, source, &input));
         }
     }
     Ok(histogram)
 }
 
-/// What differs between two outcomes.
-fn difference(expected: &Outcome, got: &Outcome) -> String {
-    let mut text = format!("answers: {:?} and {:?}", expected.answer, got.answer);
-    let place = match (&expected.buffer, &got.buffer) {
+/// What differs between the outcomes of two implementations.
+fn difference(names: [&str; 2], first: &Outcome, second: &Outcome) -> String {
+    let mut text = format!(
+        "{} {:?}, {} {:?}",
+        names[0], first.answer, names[1], second.answer
+    );
+    let place = match (&first.buffer, &second.buffer) {
         (Buffer::Words(a), Buffer::Words(b)) => first_difference(a, b),
         (Buffer::Bytes(a), Buffer::Bytes(b)) => first_difference(a, b),
         _ => None,

@@ -1,0 +1,13 @@
+//! A plain implementation of document 01, generators of inputs, and what runs two implementations
+//! beside each other.
+
+pub mod answer;
+pub mod beside;
+pub mod cases;
+pub mod damage;
+pub mod generate;
+pub mod laws;
+pub mod linked;
+pub mod reference;
+#[cfg(test)]
+mod tests;
