@@ -15,3 +15,4 @@ mod ChainLaws
 mod LimitLaws
 mod JoinWords
 mod AnswerLaws
+pub mod Claims
