@@ -30,20 +30,20 @@ use Rattle.compose.proofs.LimitLaws.{limits-over, limits-within}
 -- ---- a call that lends words their room
 
 -- the same check, said otherwise
-pub gives-by : {out : List ℕ} {c d : Checked (List ℕ)} {x : Said} {y : List ℕ} → c ≡ d → Gives out d x y → Gives out c x y
+gives-by : {out : List ℕ} {c d : Checked (List ℕ)} {x : Said} {y : List ℕ} → c ≡ d → Gives out d x y → Gives out c x y
 gives-by {out} {x = x} {y = y} e = subst (λ b. Gives out b x y) (sym e)
 
 module _ (out : List ℕ) {c : Checked (List ℕ)} where
-  pub gives-refusal : {n i : ℕ} → c ≡ refuses n i → Gives out c (refusal n i) out
+  gives-refusal : {n i : ℕ} → c ≡ refuses n i → Gives out c (refusal n i) out
   unfolding answer-of buffer-after
   gives-refusal e = record { says = rw e; leaves = rw e }
 
   module _ (ws : List ℕ) (e : c ≡ lent ws (length out)) where
-    pub gives-short : length out < length ws → Gives out c (refusal 22 (length ws)) out
+    gives-short : length out < length ws → Gives out c (refusal 22 (length ws)) out
     unfolding room-for require _>>_
     gives-short h = gives-refusal (e ∙ rw (tests.lt-leb (length ws) (length out) h))
 
-    pub gives-words : {y : List ℕ} {i : ℕ} → length ws ≤ 16384 → length ws ≤ length out → Writes out 0 ws y i → Gives out c (count i) y
+    gives-words : {y : List ℕ} {i : ℕ} → length ws ≤ 16384 → length ws ≤ length out → Writes out 0 ws y i → Gives out c (count i) y
     unfolding room-for require _>>_ answer-of buffer-after
     gives-words few h p =
         let f = tests.le-leb (length ws) (length out) h in
@@ -52,8 +52,12 @@ module _ (out : List ℕ) {c : Checked (List ℕ)} where
 
 -- ---- a sheet's check
 
-pub sheet-passed : (ws : List ℕ) {s : Sheet} → sheet-of ws ≡ passes s → Passed ws s
+sheet-passed : (ws : List ℕ) {s : Sheet} → sheet-of ws ≡ passes s → Passed ws s
 sheet-passed ws {s} e = let (w, r) = sheet-passes ws s .0 e in record { words = w; ranges = r }
+
+-- by its answer
+pub sheet-counts : (ws : List ℕ) {r : Answer} {n : ℕ} → said r ≡ sheet-said ws → r ≡ Count n → (s : Sheet) × Passed ws s
+sheet-counts ws e c = let (_, (s, p)) = sheet-counted ws e c in (s, sheet-passed ws p)
 
 -- ---- swap
 
@@ -65,10 +69,6 @@ module _ (sheet : List ℕ) (room : ℕ) where
   swap-lends : {s : Sheet} → sheet-of sheet ≡ passes s → swap sheet room ≡ lent (sheet-words (swapped s)) room
   unfolding swap _>>=_
   swap-lends e = rw e
-
--- n is the number of words of a sheet that passed
-pub sheet-counts : (ws : List ℕ) {r : Answer} {n : ℕ} → said r ≡ sheet-said ws → r ≡ Count n → (s : Sheet) × Passed ws s
-sheet-counts ws e c = let (_, (s, p)) = sheet-counted ws e c in (s, sheet-passed ws p)
 
 module _ (sheet out : List ℕ) where
   abbrev Swaps : Said → List ℕ → Type 0
@@ -130,8 +130,8 @@ module _ (j : Sheet) (out : List ℕ) where
     unfolding _>>_
     limited-over h = let h′ : first-place (j .rules) < 6 = omega arith in gives-refusal out (rw (limits-over j few h′, e))
 
-    pub limited-within : k ≡ 6 → limited j (length out) ≡ fitted j (length out)
-    limited-within h = ap (λ (c : Checked (Unit {0})). c >> lent (sheet-words j) (length out)) (limits-within j few (sym e ∙ h))
+    pub limited-within : 6 ≤ k → {x : Said} {y : List ℕ} → Gives out (fitted j (length out)) x y → Gives out (limited j (length out)) x y
+    limited-within h = gives-by (ap (λ (c : Checked (Unit {0})). c >> lent (sheet-words j) (length out)) (limits-within j few (omega arith)))
 
 -- ---- join: its checks in their order
 

@@ -1,12 +1,12 @@
 -- The words of a count part, and of joint ones.
-use mathlib.Core.Path.{_≡_, refl, sym, ap, _∙_, subst}
+use mathlib.Core.Path.{_≡_, sym, ap, _∙_, subst}
 use mathlib.Core.List.{List, [], _∷_, _++_, map, flatMap, List·Memᴰ·head, List·Memᴰ·tail, List·Memᴰ·not-nil}
 use Prim.Native.Nat.{ℕ, suc, _+_, _-_, _≤_, _<_}
 use native.Mathlib.Omega.{arith}
 use lib.ListN.{length, getD, length-append, length-map}
 use Rattle.model.specs.Lists.{_∈_}
 use Rattle.model.specs.Sheet.{Step, at-most, remainder, not-step, and-step, or-step, step-words, count-words, StepInRange, StepsInRange}
-use Rattle.model.specs.Compose.{Side, S, T, Sizes, lift-step}
+use Rattle.model.specs.Compose.{S, T, Sizes, lift-step}
 use Rattle.model.proofs.ListLaws.{each-append}
 use Rattle.model.proofs.Pairs.{of-pairs}
 use Rattle.model.proofs.Spans.{word-there, word-here, word-next}

@@ -1,10 +1,9 @@
 -- The words of joint rules, by their parts.
 use mathlib.Core.Path.{_≡_, refl, sym, _∙_, subst}
-use mathlib.Core.Bool.{Bool, true, false, _||_}
+use mathlib.Core.Bool.{Bool, _||_}
 use mathlib.Core.List.{List, [], _∷_, _++_, map, flatMap, append-nil, List·Memᴰ·head}
 use mathlib.Core.Option.{Option, none, some}
 use Prim.Native.Nat.{ℕ, _+_, _*_, _≤_, _<_}
-use native.Mathlib.Omega.{arith}
 use lib.ListN.{length, getD}
 use Rattle.model.specs.Sheet.{Order, Step, Rule, one, two, order-words, count-words, rule-words}
 use Rattle.model.specs.Compose.{pair, S, T, Sizes, lift-order, pair-order, joint-order, lift-step, joint-count, pair-rule, positions-of}

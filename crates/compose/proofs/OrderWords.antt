@@ -1,19 +1,17 @@
 -- The words of an order part, and of lifted and paired ones.
-use mathlib.Core.Path.{_≡_, refl, sym, ap, ap₂, _∙_, subst}
-use mathlib.Core.Bool.{Bool, _&&_}
+use mathlib.Core.Path.{_≡_, refl, sym, ap, ap₂, _∙_}
+use mathlib.Core.Bool.{_&&_}
 use mathlib.Core.List.{List, [], _∷_, _++_, map, flatMap, map-id, List·Memᴰ·head, List·Memᴰ·tail}
-use Prim.Native.Nat.{ℕ, suc, _+_, _*_, _/_, _%_, _^_, _≤_, _<_}
+use Prim.Native.Nat.{ℕ, suc, _+_, _*_, _/_, _%_, _≤_}
 use native.Mathlib.Nat.{suc-mul}
 use native.Mathlib.Omega.{arith}
-use lib.ListN.{length, getD, take, drop, length-append, length-map, length-take, length-drop}
+use lib.ListN.{length, getD, take, drop, length-append, length-map, length-drop}
 use lib.Seq.{slice, take-add, drop-at, take-at, length-take-le}
-use borrow.Author.Tests as tests
 use Rattle.model.specs.Lists.{_∈_, has, numbers, row, grid}
 use Rattle.model.specs.Sheet.{W, mask, set-words, bit, Arc, arc-word, arc-of, Order, order-words, ArcInRange, OrderInRange}
 use Rattle.model.specs.Compose.{pair, Side, Sizes, of-other, lift-arc, lift-order, pair-arc, pair-order}
-use Rattle.model.proofs.Tests.{Told, yea, nay, told}
 use Rattle.model.proofs.ListLaws.{length-from, map-append}
-use Rattle.model.proofs.Spans.{WordsAt, word-there, word-here, word-next, span-left, span-right}
+use Rattle.model.proofs.Spans.{WordsAt, word-there, word-here, span-right}
 use Rattle.compose.specs.Arcs.{lifted-arc, paired-arc}
 use Rattle.compose.specs.declared.order.OrderHead.{OrderHead}
 use Rattle.compose.specs.Parts.{OrderAt, HeadOf}

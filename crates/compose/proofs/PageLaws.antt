@@ -1,6 +1,5 @@
 -- Laws of writing: one run of words after another, what a loop that writes keeps, and the front of the buffer at last.
 use mathlib.Core.Path.{_≡_, refl, sym, ap, _∙_}
-use mathlib.Core.Bool.{true, false, cond}
 use mathlib.Core.List.{List, [], _∷_, _++_, flatMap}
 use Prim.Native.Nat.{ℕ, suc, _+_, _-_, _≤_, _<_, min}
 use native.Mathlib.Numerals.{add-one}

@@ -1,11 +1,11 @@
 -- Parts that stand in words one after another, of which a loop passes one at a time.
-use mathlib.Core.Path.{_≡_, refl, sym, ap, _∙_}
+use mathlib.Core.Path.{_≡_, refl, ap, _∙_}
 use mathlib.Core.List.{List, [], _∷_, _++_, flatMap, List·Memᴰ·head, List·Memᴰ·tail}
-use Prim.Native.Nat.{ℕ, suc, _+_, _≤_, _<_}
+use Prim.Native.Nat.{ℕ, _+_, _≤_, _<_}
 use native.Mathlib.Omega.{arith}
 use lib.ListN.{length, length-append}
 use Rattle.model.specs.Lists.{_∈_}
-use Rattle.model.proofs.Spans.{WordsAt, span-left, span-right}
+use Rattle.model.proofs.Spans.{span-left, span-right}
 use Rattle.compose.specs.Parts.{Stands}
 
 -- k of n parts are passed, and the rest stands from i on

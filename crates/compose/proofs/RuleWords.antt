@@ -8,7 +8,6 @@ use Prim.Native.Nat.{ℕ, _+_, _≤_, _<_}
 use native.Mathlib.Omega.{arith}
 use lib.ListN.{length, getD, length-append, length-map}
 use Rattle.model.specs.Sheet.{Order, Step, Rule, one, two, three, set-words, arc-word, order-words, step-words, count-words, rule-words, OrderInRange, CountInRange, IfAny}
-use Rattle.model.specs.Compose.{Sizes, joint-order, joint-count}
 use Rattle.model.proofs.Spans.{WordsAt, word-there, word-here, word-next, span-left, span-right}
 use Rattle.compose.specs.Parts.{OrderAt, CountAt}
 use Rattle.compose.specs.Rules.{RuleAt, Content, content, there-is, map-of, ordered, counted, order-part, count-part}

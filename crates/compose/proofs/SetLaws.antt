@@ -11,7 +11,7 @@ use mir.Val.{boolByte}
 use Rattle.model.specs.Lists.{_∈_, has, grid, SetBelow}
 use Rattle.model.specs.Sheet.{mask, bit}
 use Rattle.model.specs.Compose.{pair, Side, S, T, half, Sizes}
-use Rattle.model.proofs.Tests.{Yes, Told, yea, nay, told, and-yes}
+use Rattle.model.proofs.Tests.{Told, yea, nay, told, and-yes}
 use Rattle.model.proofs.ListLaws.{∈-has, has-∈, has-no}
 use Rattle.model.proofs.Pairs.{either, on-both, of-pairs, ∈-pairs}
 use Rattle.model.proofs.SetWords.{bit-mask, mask-<}

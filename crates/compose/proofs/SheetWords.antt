@@ -1,5 +1,5 @@
 -- The words of a sheet that passed, and those of its swapped sheet.
-use mathlib.Core.Path.{_≡_, refl, sym, ap, _∙_}
+use mathlib.Core.Path.{_≡_, sym, ap, _∙_}
 use mathlib.Core.Bool.{Bool, not}
 use mathlib.Core.List.{List, [], _∷_, _++_, flatMap}
 use Prim.Native.Nat.{ℕ, _+_, _*_, _/_, _%_, _^_, _≤_, _<_}
@@ -10,7 +10,7 @@ use Rattle.model.specs.Lists.{has, only, numbers}
 use Rattle.model.specs.Sheet.{Sheet, W, mask, set-words, sheet-words}
 use Rattle.model.specs.Compose.{swapped}
 use Rattle.model.proofs.Tests.{Told, yea, nay, told}
-use Rattle.model.proofs.ListLaws.{∈-has, has-∈, has-no, ∈-filter}
+use Rattle.model.proofs.ListLaws.{∈-has, has-no, ∈-filter}
 use Rattle.model.proofs.SetWords.{mask-<}
 use Rattle.compose.specs.Parts.{Passed}
 use Rattle.compose.proofs.SetLaws.{mask-like, turned-is}

@@ -1,25 +1,24 @@
 -- The words of a sum, and of a lifted one.
 use mathlib.Core.Path.{_≡_, refl, sym, ap, ap₂, _∙_, subst}
-use mathlib.Core.Logic.{_↔_}
 use mathlib.Core.Bool.{Bool, true, false, cond, _||_, false≢true}
 use mathlib.Core.List.{List, [], _∷_, _++_, map, flatMap, List·Memᴰ·head, List·Memᴰ·tail}
-use Prim.Native.Nat.{ℕ, zero, suc, _+_, _-_, _*_, _/_, _%_, _^_, _≤_, _<_}
+use Prim.Native.Nat.{ℕ, zero, suc, _+_, _*_, _/_, _%_, _^_, _≤_, _<_}
 use native.Mathlib.Nat.{pow-suc}
 use native.Mathlib.Omega.{arith}
 use lib.Arith.{mod-mul}
 use lib.Count.{ones, ones-step}
 use lib.Dec.{eqb, ltb, leb·suc-zero, leb·suc-suc, eqb·zero-suc, eqb·suc-zero, eqb·suc-suc}
-use lib.ListN.{length, getD, take, length-append, length-map}
+use lib.ListN.{length, getD, take, length-map}
 use lib.Pow.{pow-pos}
 use lib.Seq.{slice, length-slice, getD-take, getD-drop}
 use borrow.Author.Tests as tests
 use Rattle.model.specs.Lists.{_∈_, has, only, numbers, Ascending, SetBelow}
 use Rattle.model.specs.Sheet.{W, mask, set-words, bit, Coefficient, signed-word, marks, sum-words, SumInRange}
-use Rattle.model.specs.Compose.{Side, S, T, half, Sizes, coefficient-of, lift-sum}
-use Rattle.model.proofs.Tests.{Yes, Told, yea, nay, told, same, eqb-yes, eqb-no, eqb-like}
-use Rattle.model.proofs.ListLaws.{∈-has, has-∈, has-no, ∈-map, map-∈, map-each, map-append, ∈-each, each-∈, ∈-only, only-test, only-eq, ∈-numbers, numbers-<}
+use Rattle.model.specs.Compose.{Side, half, Sizes, coefficient-of, lift-sum}
+use Rattle.model.proofs.Tests.{Yes, Told, yea, nay, told, same, eqb-yes, eqb-like}
+use Rattle.model.proofs.ListLaws.{∈-has, has-∈, has-no, ∈-map, map-∈, map-each, ∈-each, each-∈, ∈-only, only-test, only-eq, ∈-numbers, numbers-<}
 use Rattle.model.proofs.Pairs.{of-side, of-pairs}
-use Rattle.model.proofs.SetWords.{bit-mask, mask-<}
+use Rattle.model.proofs.SetWords.{bit-mask}
 use Rattle.model.proofs.Spans.{word-there, word-here, span-right}
 use Rattle.compose.specs.declared.count.SumHead.{SumHead}
 use Rattle.compose.specs.Parts.{SumAt, SumOf}

@@ -23,15 +23,18 @@ pub record FewStates (u a v b nexts : List ℕ) (s t : Sheet) : Type 0 where
   pub others : length (t .rules) ≡ length b
   pub nexts-room : length b ≤ length nexts
 
--- The tables a and b have where the rules stand, t's rules are chained, and the joint sheet has n rules, with few enough
--- positions.
-pub record Joins (u a v b heads nexts : List ℕ) (n : ℕ) (s t : Sheet) : Type 0 where
+-- The tables a and b have where the rules stand, and t's rules are chained.
+pub record Tables (u a v b heads nexts : List ℕ) (s t : Sheet) : Type 0 where
   pub first : Passed u s
   pub second : Passed v t
   pub few-pairs : FewPairs (sizes s t)
   pub starts : Starts (s .states) u a (s .rules)
   pub others : Starts (t .states) v b (t .rules)
   pub chained : Chained (t .rules) heads nexts 0
+
+-- The joint sheet has n rules, with few enough positions.
+pub record Joins (u a v b heads nexts : List ℕ) (n : ℕ) (s t : Sheet) : Type 0 where
+  pub tables : Tables u a v b heads nexts s t
   pub few-positions : FewPositions (joint s t .rules)
   pub number : n ≡ length (joint s t .rules)
 

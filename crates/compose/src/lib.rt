@@ -7,7 +7,7 @@ ghost use Rattle.model.specs.Sheet.{Sheet};
 ghost use Rattle.model.specs.Compose.{joint};
 ghost use Rattle.model.specs.Calls.{swap-said, swap-out, join-said, join-out};
 ghost use Rattle.compose.specs.Parts.{Passed};
-ghost use Rattle.compose.specs.Joins.{Joins, FewStates, Gives, fitted, limited};
+ghost use Rattle.compose.specs.Joins.{FewStates, Tables, Joins, Gives, fitted, limited};
 
 mod count;
 mod joint;
@@ -19,7 +19,7 @@ mod set;
 mod sheets;
 mod side;
 
-use limits::WORDS;
+use limits::MOST_RULES;
 use limits::first_limit;
 use limits::tally_rules;
 use model::Answer;
@@ -37,11 +37,6 @@ use sheets::put_swapped;
 use side::Sizes;
 
 const MOST_STATES: u32 = 64;
-
-const MOST_RULES: usize = 1024;
-
-// the limit of states is the first
-const FIRST_LIMIT: usize = 1;
 
 // the place of a refusal of T's words is that of T's check plus this
 const SECOND: usize = 20000;
@@ -79,7 +74,7 @@ fn join_within(
 {
     let needed = joint_length(first, starts, second, others, heads, nexts, rules);
     if MOST_WORDS < needed {
-        return Answer::Error(Refusal::JointLimit(WORDS));
+        return Answer::Error(Refusal::JointLimit(limits::WORDS));
     }
     if out.len() < needed {
         return Answer::Error(Refusal::ShortBuffer(needed));
@@ -87,8 +82,34 @@ fn join_within(
     Answer::Count(put_joint(first, starts, second, others, heads, nexts, rules, out))
 }
 
-// The joint sheet of two sheets with few enough states, with room for where each of their rules stands and for T's chains.
+// The joint sheet of two sheets with few enough states, whose rules stand by the tables: 21 from its place 2 on, or 22.
 fn join_rules(
+    first: &[u32],
+    starts: &[u16],
+    second: &[u32],
+    others: &[u16],
+    heads: &[u16; KEYS],
+    nexts: &[u16],
+    out: &mut [u32],
+) -> Answer
+    requires { ⌜ ((s t : Sheet) × Tables (now first) (now starts) (now second) (now others) (now heads) (now nexts) s t) ⌝ }
+    ensures { λ r. ⌜ ((s t : Sheet) → Tables (now (first .entry)) (now (starts .entry)) (now (second .entry)) (now (others .entry)) (now (heads .entry)) (now (nexts .entry)) s t → Gives (now (out .entry)) (limited (joint s t) (length (now (out .entry)))) (said r) (now (out .exit))) ⌝ }
+{
+    let sizes = Sizes {
+        s: first[STATES],
+        t: second[STATES],
+    };
+    let tally = tally_rules(first, starts, second, others, heads, nexts, sizes);
+    let limit = first_limit(tally);
+    if limit < limits::WORDS {
+        return Answer::Error(Refusal::JointLimit(limit));
+    }
+    let rules = tally.rules as u32;
+    join_within(first, starts, second, others, heads, nexts, rules, out)
+}
+
+// The same, with room for the tables.
+fn join_tables(
     first: &[u32],
     starts: &mut [u16],
     second: &[u32],
@@ -103,17 +124,7 @@ fn join_rules(
     find_rules(first, starts);
     find_rules(second, others);
     chain_rules(second, others, &mut heads, nexts);
-    let sizes = Sizes {
-        s: first[STATES],
-        t: second[STATES],
-    };
-    let tally = tally_rules(first, starts, second, others, &heads, nexts, sizes);
-    let limit = first_limit(tally);
-    if limit < WORDS {
-        return Answer::Error(Refusal::JointLimit(limit));
-    }
-    let rules = tally.rules as u32;
-    join_within(first, starts, second, others, &heads, nexts, rules, out)
+    join_rules(first, starts, second, others, &heads, nexts, out)
 }
 
 // The joint sheet of two sheets: 21 or 22.
@@ -122,14 +133,14 @@ fn join_passed(first: &[u32], second: &[u32], out: &mut [u32]) -> Answer
     ensures { λ r. ⌜ ((s t : Sheet) → Passed (now (first .entry)) s → Passed (now (second .entry)) t → Gives (now (out .entry)) (limited (joint s t) (length (now (out .entry)))) (said r) (now (out .exit))) ⌝ }
 {
     if MOST_STATES < first[STATES] * second[STATES] {
-        return Answer::Error(Refusal::JointLimit(FIRST_LIMIT));
+        return Answer::Error(Refusal::JointLimit(limits::STATES));
     }
     let mut starts = [0u16; MOST_RULES];
     let mut others = [0u16; MOST_RULES];
     let mut nexts = [0u16; MOST_RULES];
     let m = first[RULES] as usize;
     let n = second[RULES] as usize;
-    join_rules(
+    join_tables(
         first,
         &mut starts[..m],
         second,

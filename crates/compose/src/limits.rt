@@ -20,13 +20,16 @@ use crate::rule::wide;
 use crate::side::Sizes;
 
 // The most rules of a sheet, the most positions, arcs and steps of a rule, and the places by which these limits are told.
-const MOST_RULES: usize = 1024;
+pub(crate) const MOST_RULES: usize = 1024;
 
 const MOST_POSITIONS: u32 = 64;
 
 const MOST_ARCS: u32 = 1024;
 
 const MOST_STEPS: u32 = 32;
+
+// the limit of states comes before these
+pub(crate) const STATES: usize = 1;
 
 const RULES: usize = 2;
 

@@ -1,8 +1,8 @@
 // Sets of numbers below 64: the bits of a number. In a sheet a set is two words, the low 32 bits and the high.
 ghost use mathlib.Core.Path.{_≡_};
-ghost use mathlib.Core.Bool.{Bool, not, _&&_};
+ghost use mathlib.Core.Bool.{_&&_};
 ghost use mathlib.Core.List.{[], _∷_};
-ghost use Prim.Native.Nat.{ℕ, _+_, _*_, _/_, _%_, _^_, _≤_, _<_};
+ghost use Prim.Native.Nat.{_+_, _*_, _/_, _%_, _^_, _≤_, _<_};
 ghost use lib.Count.{ones};
 ghost use Rattle.model.specs.Sheet.{W, mask, bit};
 ghost use Rattle.compose.specs.Page.{Writes};

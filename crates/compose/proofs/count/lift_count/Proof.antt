@@ -1,5 +1,4 @@
 -- `count::lift_count` meets its contract.
-use mathlib.Core.Path.{refl}
 use native.Mathlib.Omega.{arith}
 use Rattle.compose.proofs.PageLaws.{then, as-words}
 use Rattle.compose.proofs.CountWords.{count-fields, lifted-count-words}

@@ -1,6 +1,5 @@
 -- `count::step_end` meets its contract.
 use native.Mathlib.Omega.{arith}
-use lib.ListN.{length-append}
 use Rattle.compose.proofs.StepWords.{step-there, sum-step, sum-step-end, one-number, two-numbers}
 use borrow.Author.Needs.{needs}
 use Rattle.compose.proofs.count.step_end.Statement.{statement}

@@ -1,7 +1,6 @@
 -- `order::pair_order` meets its contract.
 use mathlib.Core.Path.{refl}
 use native.Mathlib.Omega.{arith}
-use Rattle.model.specs.Compose.{Sizes}
 use Rattle.compose.specs.Sides.{sizes-of}
 use Rattle.compose.proofs.NumberLaws.{few-S, few-T}
 use Rattle.compose.proofs.PageLaws.{then, as-words}

@@ -1,7 +1,4 @@
 -- `side::half` meets its contract.
-use mathlib.Core.Path.{ap, sym}
-use Rattle.model.specs.Compose as model
-use Rattle.compose.specs.Sides.{side-of}
 use borrow.Author.Needs.{needs}
 use Rattle.compose.proofs.side.half.Statement.{statement}
 use Rattle.compose.proofs.side.half.Tie as tie
