@@ -4,7 +4,7 @@ ghost use mathlib.Core.Bool.{Bool};
 ghost use mathlib.Core.List.{List};
 ghost use mathlib.Core.Option.{some};
 ghost use Prim.Native.Nat.{ℕ, _+_, _*_, _^_, _<_};
-ghost use lib.ListN.{length, getD};
+ghost use lib.ListN.{length, getD, replicate};
 ghost use lib.IntN.{pos, natAbs, _+ℤ_, _*ℤ_};
 ghost use Rattle.model.specs.Sheet.{bit};
 ghost use Rattle.model.specs.Words.{«fits-count»};
@@ -35,12 +35,11 @@ struct Step {
     next: usize,
 }
 
-// How often each state occurs among the children with these state words.
+// How often each state occurs among the children with these state words, to counts that are all 0.
 pub(crate) fn occurrences(words: &[u32], counts: &mut [u32; STATES])
-    requires { ⌜ StateWords (now words) ⌝ }
+    requires { ⌜ StateWords (now words) × (now counts ≡ replicate 64 0) ⌝ }
     ensures { λ r. ⌜ Occurs (now (counts .exit)) (states-of (now (words .entry))) ⌝ }
 {
-    *counts = [0; STATES];
     let mut i = 0;
     while i < words.len() {
         let q = (words[i] - 1) as usize;

@@ -16,6 +16,6 @@ content-spec =
     (λ c. omega (arith, c .before .before .before .before .before .pre .1 .1 .each 0 (omega arith)))
     (λ c κs. search needs)
     (λ c. lone-found _ _ (c .before .before .before .before .before .before .pre .1 .1) (c .before .before .if1 .taken) (c .with-if .ensures))
-    (λ c κs. c .before .before .before .before .before .before .pre .1 .1)
+    (λ c κs. (c .before .before .before .before .before .before .pre .1 .1, search needs))
     (λ c κs. ((_, c .before .before .before .before .before .before .pre .0, λ e. ⊎-elim (λ w. rw (w .3) (w .2 .ensures)) (λ w. never (sym (w .0 .left) ∙ e)) (c .before .if2 .came)), (c .before .before .before .before .before .before .pre .1 .0, c .before .before .before .before .before .before .pre .1 .1)))
     (λ c. several-found _ _ (c .before .before .before .if1 .left) (c .try-all .ensures)))
