@@ -17,74 +17,77 @@ const TWO_TAGS: [u32; 6] = [1, 2, 2, 0, 2, 0];
 
 const MANY_STATES: [u32; 6] = [1, 33, 0, 0, 2, 0];
 
+// a sheet with a content rule that has no part
+const PLAIN: [u32; 8] = [1, 1, 0, 0, 1, 1, CONTENT, 0];
+
 // ---- joining
 
-fn join(what: &[u8], first: &[u32], second: &[u32], out: &mut [u32]) {
+fn join_into(what: &[u8], first: &[u32], second: &[u32], out: &mut [u32]) {
     say::answer(what, compose::join(first, second, out));
     say::words(b"buffer", out);
 }
 
-fn refused_words() {
+fn join(what: &[u8], first: &[u32], second: &[u32]) {
     let mut out = [7u32; 8];
-    join(b"S of edition 0", &NO_EDITION, &BARE, &mut out);
-    join(b"T of edition 0", &BARE, &NO_EDITION, &mut out);
-    join(b"S short", &SHORT, &BARE, &mut out);
-    join(b"T short", &BARE, &SHORT, &mut out);
-    join(b"S short, T of edition 0", &SHORT, &NO_EDITION, &mut out);
+    join_into(what, first, second, &mut out);
+}
+
+fn join_without_room(what: &[u8], first: &[u32], second: &[u32]) {
+    let mut none: [u32; 0] = [];
+    join_into(what, first, second, &mut none);
+}
+
+fn refused_words() {
+    join(b"S of edition 0", &NO_EDITION, &BARE);
+    join(b"T of edition 0", &BARE, &NO_EDITION);
+    join(b"S short", &SHORT, &BARE);
+    join(b"T short", &BARE, &SHORT);
+    join(b"S short, T of edition 0", &SHORT, &NO_EDITION);
     let none: [u32; 0] = [];
-    join(b"no word of T", &BARE, &none, &mut out);
+    join(b"no word of T", &BARE, &none);
 }
 
 fn order() {
-    let mut out = [7u32; 8];
-    join(b"1 tag and 2 tags", &BARE, &TWO_TAGS, &mut out);
-    join(b"2 tags and 1 tag", &TWO_TAGS, &BARE, &mut out);
-    join(
-        b"1 tag, and no states and 2 tags",
-        &BARE,
-        &NO_STATES,
-        &mut out,
-    );
-    join(b"66 states, and tags differ", &BARE, &MANY_STATES, &mut out);
-    let mut none: [u32; 0] = [];
-    join(b"tags differ, and no room", &BARE, &TWO_TAGS, &mut none);
-    join(
-        b"66 states, and no room",
-        &TWO_TAGS,
-        &MANY_STATES,
-        &mut none,
-    );
+    join(b"1 tag and 2 tags", &BARE, &TWO_TAGS);
+    join(b"2 tags and 1 tag", &TWO_TAGS, &BARE);
+    join(b"1 tag, and no states and 2 tags", &BARE, &NO_STATES);
+    join(b"66 states, and tags differ", &BARE, &MANY_STATES);
+    join_without_room(b"tags differ, and no room", &BARE, &TWO_TAGS);
+    join_without_room(b"66 states, and no room", &TWO_TAGS, &MANY_STATES);
 }
 
+// Joins a sheet of 8 words with itself, which are 8 words again.
 fn room() {
     let s = [1u32, 2, 2, 0, 1, 1, CONTENT, 1];
-    let mut none: [u32; 0] = [];
-    join(b"8 words, no room", &s, &s, &mut none);
+    join_without_room(b"8 words, no room", &s, &s);
     let mut few = [7u32; 7];
-    join(b"8 words, room for 7", &s, &s, &mut few);
-    let mut enough = [7u32; 8];
-    join(b"8 words, room for 8", &s, &s, &mut enough);
+    join_into(b"8 words, room for 7", &s, &s, &mut few);
+    join(b"8 words, room for 8", &s, &s);
     let mut more = [7u32; 10];
-    join(b"8 words, room for 10", &s, &s, &mut more);
+    join_into(b"8 words, room for 10", &s, &s, &mut more);
 }
 
 // ---- swapping
 
-fn swap(what: &[u8], sheet: &[u32], out: &mut [u32]) {
+fn swap_into(what: &[u8], sheet: &[u32], out: &mut [u32]) {
     say::answer(what, compose::swap(sheet, out));
     say::words(b"buffer", out);
 }
 
-fn swaps() {
+fn swap(what: &[u8], sheet: &[u32]) {
     let mut out = [7u32; 8];
-    swap(b"swapped, edition 0", &NO_EDITION, &mut out);
-    swap(b"swapped, a word short", &SHORT, &mut out);
-    let mut few = [7u32; 5];
-    swap(b"swapped, 6 words, room for 5", &BARE, &mut few);
-    swap(b"swapped, a word short, room for 5", &SHORT, &mut few);
+    swap_into(what, sheet, &mut out);
+}
+
+fn swaps() {
+    swap(b"swapped, edition 0", &NO_EDITION);
+    swap(b"swapped, a word short", &SHORT);
+    swap(b"swapped, 6 words, room for 8", &BARE);
     let mut enough = [7u32; 6];
-    swap(b"swapped, 6 words, room for 6", &BARE, &mut enough);
-    swap(b"swapped, 6 words, room for 8", &BARE, &mut out);
+    swap_into(b"swapped, 6 words, room for 6", &BARE, &mut enough);
+    let mut few = [7u32; 5];
+    swap_into(b"swapped, 6 words, room for 5", &BARE, &mut few);
+    swap_into(b"swapped, a word short, room for 5", &SHORT, &mut few);
 }
 
 // all bits of a word, and the highest alone
@@ -92,52 +95,46 @@ const ALL: u32 = 0xFFFF_FFFF;
 
 const HIGHEST: u32 = 0x8000_0000;
 
+// Swaps a sheet without rules, by its number of states and its final states.
+fn turned(what: &[u8], states: u32, low: u32, high: u32) {
+    swap(what, &[1u32, states, low, high, 1, 0]);
+}
+
 fn swapped_states() {
-    let mut out = [7u32; 6];
-    swap(b"1 state", &[1u32, 1, 0, 0, 1, 0], &mut out);
-    swap(b"1 state, final", &[1u32, 1, 1, 0, 1, 0], &mut out);
-    swap(
-        b"32 states, 31 final",
-        &[1u32, 32, HIGHEST, 0, 1, 0],
-        &mut out,
-    );
-    swap(b"33 states, 32 final", &[1u32, 33, 0, 1, 1, 0], &mut out);
-    swap(b"63 states", &[1u32, 63, 0, 0, 1, 0], &mut out);
-    swap(
-        b"64 states, 0 and 63 final",
-        &[1u32, 64, 1, HIGHEST, 1, 0],
-        &mut out,
-    );
-    swap(
-        b"64 states, all final",
-        &[1u32, 64, ALL, ALL, 1, 0],
-        &mut out,
-    );
+    turned(b"1 state", 1, 0, 0);
+    turned(b"1 state, final", 1, 1, 0);
+    turned(b"32 states, 31 final", 32, HIGHEST, 0);
+    turned(b"33 states, 32 final", 33, 0, 1);
+    turned(b"63 states", 63, 0, 0);
+    turned(b"64 states, 0 and 63 final", 64, 1, HIGHEST);
+    turned(b"64 states, all final", 64, ALL, ALL);
 }
 
 // ---- 16,384 words: 862 rules of 19 words
 
 const RULE: [u32; 19] = [ORDER, 1, 1, 0, 13, 0, 0, 0, 0, 0, 0, 0, 0, 0, 0, 0, 0, 0, 0];
 
-fn long_sheets() {
+fn most_words() {
     let mut most = [0u32; 16384];
     alike(&mut most, 1, 862, &RULE);
     let mut out = [0u32; 16384];
-    let plain = [1u32, 1, 0, 0, 1, 1, CONTENT, 0];
     say::answer(b"16,384 words swapped", compose::swap(&most, &mut out));
     say::answer(
         b"16,384 words and a plain rule",
-        compose::join(&most, &plain, &mut out),
+        compose::join(&most, &PLAIN, &mut out),
     );
     say::answer(
         b"a plain rule and 16,384 words",
-        compose::join(&plain, &most, &mut out),
+        compose::join(&PLAIN, &most, &mut out),
     );
-    let mut over = [0u32; 16385];
-    alike(&mut over, 1, 862, &RULE);
-    say::answer(b"16,385 words swapped", compose::swap(&over, &mut out));
-    say::answer(b"S of 16,385 words", compose::join(&over, &plain, &mut out));
-    say::answer(b"T of 16,385 words", compose::join(&plain, &over, &mut out));
+}
+
+fn more_words() {
+    let mut more = [0u32; 16385];
+    alike(&mut more, 1, 862, &RULE);
+    swap(b"16,385 words swapped", &more);
+    join(b"S of 16,385 words", &more, &PLAIN);
+    join(b"T of 16,385 words", &PLAIN, &more);
 }
 
 pub(crate) fn all() {
@@ -146,5 +143,6 @@ pub(crate) fn all() {
     room();
     swaps();
     swapped_states();
-    long_sheets();
+    most_words();
+    more_words();
 }
