@@ -18,7 +18,7 @@ use Rattle.model.proofs.Tests.{never}
 use Rattle.bits.specs.Stands.{Stands}
 use Rattle.bits.proofs.SetLaws.{none-stands, stands-none, stands-some}
 use Rattle.judge.specs.Parts.{StateWords, states-of}
-use Rattle.judge.specs.Index.{rules-of, OneAt, TwoAt}
+use Rattle.judge.specs.Index.{rules-of, OneAt, TwoIn}
 use Rattle.judge.specs.Node.{Shaped, Small, words-between, node-targets, node-looks}
 use Rattle.judge.specs.Gathered.{Gathered}
 use Rattle.judge.specs.Found.{Finds}
@@ -109,7 +109,7 @@ module _ (R : List Rule) (a : ℕ) (ws : List ℕ) where
         rw (states-some ws f, none, no-tag a R) (record { reached = none-stands; number = omega (arith, g .number); few = omega (arith, g .few) })
 
     -- it reaches some
-    pub element-reached : inner ≢ 0 → {s twos : List ℕ} → Along (TwoAt s) (rules-of 2 R) twos → length twos ≤ 1024 → {targets : ℕ}
+    pub element-reached : inner ≢ 0 → {s twos : List ℕ} → Along (TwoIn s) (rules-of 2 R) twos → length twos ≤ 1024 → {targets : ℕ}
         → ((l : List ℕ) → Stands inner l → Stands targets (flatMap (at-tag a l) R))
         → Finds (2 ^ 43) targets (looks + length twos) (element-targets R a (child-states ws)) (element-looks R (child-states ws))
     unfolding element-targets element-looks

@@ -7,7 +7,7 @@ use Prim.Native.Nat.{ℕ, zero, suc, _+_, _<_}
 use native.Mathlib.Numerals.{add-one}
 use native.Mathlib.Omega.{arith}
 use lib.Dec.{eqb}
-use lib.ListN.{length, getD, drop}
+use lib.ListN.{length, getD, drop, set}
 use Rattle.model.specs.Lists.{only}
 use Rattle.model.specs.Sheet.{Rule, one, two, three}
 use Rattle.model.specs.Run.{at-text, at-content, at-tag, text-targets, kind, of-kind, looks-of, tries}
@@ -84,3 +84,14 @@ module _ {A : Type 0} {In : A → ℕ → Type 0} where
   along-at (also h t) (suc i) k =
       let (r, e, p) = along-at t i (omega arith) in
       (r, rw (add-one (suc i)) (rw (add-one i) at e), p)
+
+  pub along-nth : {l : List A} {xs : List ℕ} → Along In l xs → (d : A) (i : ℕ) → i < length xs → In (getD l i d) (getD xs i 0)
+  along-nth done d i h = absurd (omega arith)
+  along-nth (also h t) d zero k = h
+  along-nth (also h t) d (suc i) k = along-nth t d i (omega arith)
+
+  -- another word for the i-th place
+  pub along-set : {l : List A} {xs : List ℕ} → Along In l xs → (i x : ℕ) → ((r : A) → In r (getD xs i 0) → In r x) → Along In l (set xs i x)
+  along-set done i x f = done
+  along-set (also {q = r} h t) zero x f = also (f r h) t
+  along-set (also h t) (suc i) x f = also h (along-set t i x f)

@@ -10,6 +10,7 @@ mod KindLaws
 mod NodeLaws
 mod GatherLaws
 mod TargetLaws
+mod ChainLaws
 mod EndLaws
 mod WalkLaws
 mod TryLaws

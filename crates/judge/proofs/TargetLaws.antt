@@ -2,19 +2,22 @@
 use mathlib.Core.Path.{_≡_, refl, _∙_}
 use mathlib.Core.Bool.{Bool, _&&_, _||_}
 use mathlib.Core.List.{List, _∷_, flatMap}
-use Prim.Native.Nat.{ℕ, _+_, _≤_, _<_}
+use Prim.Native.Nat.{ℕ, _+_, _%_, _^_, _≤_, _<_}
+use native.Mathlib.Numerals.{add-one}
 use native.Mathlib.Omega.{arith}
 use lib.Dec.{eqb}
 use lib.ListN.{length, getD, drop, drop-of-length-le}
+use lib.Seq.{drop-cons}
 use Rattle.model.specs.Lists.{has, only}
-use Rattle.model.specs.Sheet.{Rule, mask, bit}
+use Rattle.model.specs.Sheet.{Rule, one, mask, bit}
 use Rattle.model.specs.Run.{at-text, at-tag}
+use Rattle.model.proofs.Tests.{eqb-yes}
 use Rattle.model.proofs.Spans.{Along}
 use Rattle.bits.specs.Stands.{Stands}
 use Rattle.bits.proofs.SetLaws.{Gathers, gathers-none, gathers-more, gathers-all}
-use Rattle.judge.specs.Index.{OneAt, one-at, TwoAt, two-at}
+use Rattle.judge.specs.Index.{OneAt, one-at, TwoAt, two-at, TwoIn, tag, nth}
 use Rattle.judge.proofs.WordLaws.{word-within, word-is}
-use Rattle.judge.proofs.KindLaws.{along-at}
+use Rattle.judge.proofs.KindLaws.{along-length, along-at, along-nth}
 
 -- what the rules from the i-th on add to a set makes what all of them give
 pub record Adding (f : Rule → List ℕ) (R : List Rule) (i set : ℕ) : Type 0 where
@@ -53,21 +56,28 @@ module _ {s : List ℕ} {R : List Rule} {ones : List ℕ} (t : Along (OneAt s) R
 
 -- ---- kind two
 
-module _ {s : List ℕ} {R : List Rule} {twos : List ℕ} (t : Along (TwoAt s) R twos) {i : ℕ} (h : i < length twos) where
-  pub two-room : getD twos i 0 + 3 < length s
-  two-room = let (x, e, at) = along-at t i h in go at
-    where
-      go : {x : Rule} {a : ℕ} → TwoAt s x a → a + 3 < length s
-      go (two-at _ w) = word-within w 3 (omega arith)
+rule-here : (R : List Rule) (i : ℕ) → i < length R → drop i R ≡ nth R i ∷ drop (i + 1) R
+rule-here R i h = rw (add-one i) (drop-cons R i (one 0 0) h)
 
-  pub two-adds : (name : ℕ) {inner : ℕ} {l : List ℕ} → Stands inner l → {set r a : ℕ} {reached : Bool} → Adding (at-tag name l) R i set → a ≡ getD twos i 0
-      → reached ≡ bit inner (getD s (a + 2) 0)
-      → r ≡ mask 64 (λ j. bit set j || ((eqb (getD s (a + 1) 0) name && reached) && eqb j (getD s (a + 3) 0))) → Adding (at-tag name l) R (i + 1) r
-  unfolding at-tag
-  two-adds name {inner} {l} stands {set} {r} {a} {reached} g ea er m =
-      let (x, e, at) = along-at t i h in go e at (rw (er ∙ stands .same (getD s (a + 2) 0), ea) at m)
+module _ {s : List ℕ} {R : List Rule} {twos : List ℕ} (t : Along (TwoIn s) R twos) {i places : ℕ} (h : i < length twos) (p : places ≡ getD twos i 0) where
+  abbrev a : ℕ
+  a = places % 2 ^ 16
+
+  -- its words are there, and its tag is the second of them
+  pub two-room : (a + 3 < length s) × (getD s (a + 1) 0 ≡ tag (nth R i)) × (getD s (a + 1) 0 < 65)
+  unfolding tag
+  two-room = go {x = nth R i} (rw p (along-nth t (one 0 0) i h))
     where
-      go : {x : Rule} {a : ℕ} → drop i R ≡ x ∷ drop (i + 1) R → TwoAt s x a
-          → r ≡ mask 64 (λ j. bit set j || ((eqb (getD s (a + 1) 0) name && has l (getD s (a + 2) 0)) && eqb j (getD s (a + 3) 0))) → Adding (at-tag name l) R (i + 1) r
-      go e (two-at {t = b} {c = c} q w) m =
-          adding-one g (eqb b name && has l c) e refl q (rw (word-is w 1 (omega arith), word-is w 2 (omega arith), word-is w 3 (omega arith)) at m)
+      go : {x : Rule} {a : ℕ} → TwoAt s x a → (a + 3 < length s) × (getD s (a + 1) 0 ≡ tag x) × (getD s (a + 1) 0 < 65)
+      go (two-at _ l w) = let e = word-is w 1 (omega arith) in (word-within w 3 (omega arith), e, omega arith)
+
+  pub two-adds : (name : ℕ) {inner : ℕ} {l : List ℕ} → Stands inner l → {set r : ℕ} {reached : Bool} → Adding (at-tag name l) R i set → tag (nth R i) ≡ name
+      → reached ≡ bit inner (getD s (a + 2) 0)
+      → r ≡ mask 64 (λ j. bit set j || (reached && eqb j (getD s (a + 3) 0))) → Adding (at-tag name l) R (i + 1) r
+  unfolding at-tag tag
+  two-adds name {inner} {l} stands {set} {r} {reached} g named er m =
+      go (rule-here R i (omega (arith, along-length t))) named (rw p (along-nth t (one 0 0) i h)) (rw (er ∙ stands .same (getD s (a + 2) 0)) at m)
+    where
+      go : {x : Rule} → drop i R ≡ x ∷ drop (i + 1) R → tag x ≡ name → TwoAt s x a
+          → r ≡ mask 64 (λ j. bit set j || (has l (getD s (a + 2) 0) && eqb j (getD s (a + 3) 0))) → Adding (at-tag name l) R (i + 1) r
+      go e n (two-at {t = b} {c = c} q _ w) m = adding-one g (has l c) e (rw (eqb-yes {m = b} n)) q (rw (word-is w 2 (omega arith), word-is w 3 (omega arith)) at m)

@@ -15,8 +15,8 @@ use Rattle.model.proofs.Spans.{WordsAt, whole, span-left, span-right, word-here
 use Rattle.model.proofs.SheetCode.{sheet-passes}
 use Rattle.bits.specs.Stands.{Stands}
 use Rattle.bits.proofs.SetLaws.{words-stand}
-use Rattle.judge.specs.Index.{sheet-in, rules-in, Passes, rules-of, OneAt, one-at, TwoAt, two-at, ThreeAt, plain, ordered, summed, both, ThreeIn, with-count, any-count, Indexed}
-use Rattle.judge.proofs.WordLaws.{words-within, word-is, take-stored}
+use Rattle.judge.specs.Index.{sheet-in, rules-in, Passes, rules-of, OneAt, one-at, TwoAt, two-at, TwoIn, ThreeAt, plain, ordered, summed, both, ThreeIn, with-count, any-count, Indexed}
+use Rattle.judge.proofs.WordLaws.{words-within, word-within, word-is, take-stored}
 use Rattle.judge.proofs.EndLaws.{three-room}
 
 -- ---- the words of a sheet that passes
@@ -135,7 +135,7 @@ pub record Walk (s : List ℕ) (i at : ℕ) (ones twos threes : List ℕ) (count
   pub ranges : (r : Rule) → r ∈ rest → RuleInRange (sheet-in s .states) (sheet-in s .tags) r
   pub stands : WordsAt s at (length s) (flatMap (rule-words (sheet-in s .states)) rest)
   pub one-places : Adds (OneAt s) 1 (rules-in s) rest ones
-  pub two-places : Adds (TwoAt s) 2 (rules-in s) rest twos
+  pub two-places : Adds (TwoIn s) 2 (rules-in s) rest twos
   pub three-places : Adds (ThreeIn s (any-count (rules-in s))) 3 (rules-in s) rest threes
   pub counts : (counted || any-count rest) ≡ any-count (rules-in s)
 
@@ -194,17 +194,19 @@ module _ {s : List ℕ} {i at : ℕ} {ones twos threes : List ℕ} {counted : Bo
         counts = w .counts;
       }
 
-  two-found : {n c q : ℕ} {rest : List Rule} → Walk s i at ones twos threes counted (two n c q ∷ rest) → sheet-in s .states ≤ 64
+  two-found : {n c q : ℕ} {rest : List Rule} → Walk s i at ones twos threes counted (two n c q ∷ rest) → sheet-in s .states ≤ 64 → sheet-in s .tags ≤ 64 → length s ≤ 16384
       → Walk s (i + 1) (at + 4) ones (twos ++ (at ∷ [])) threes counted rest
   unfolding rule-words flatMap only kind any-count with-count
-  two-found w few =
-      let (_, _, _, h) = range w in
+  two-found {n} {c} {q} w few few-tags short =
+      let (_, g, _, h) = range w in
+      let low : at % 2 ^ 16 ≡ at = omega (arith, word-within (here w) 0 (omega arith)) in
+      let found : TwoAt s (two n c q) at = two-at {t = n} {q = q} (omega arith) (omega arith) (here w) in
       record {
         number = omega (arith, w .number);
         ranges = λ x m. w .ranges x (List·Memᴰ·tail m);
         stands = behind w;
         one-places = w .one-places;
-        two-places = λ l t. rw (append-assoc twos (at ∷ []) l) (w .two-places (at ∷ l) (also (two-at (omega arith) (here w)) t));
+        two-places = λ l t. rw (append-assoc twos (at ∷ []) l) (w .two-places (at ∷ l) (also (rw low found) t));
         three-places = w .three-places;
         counts = w .counts;
       }
@@ -254,7 +256,7 @@ module _ {s : List ℕ} {i at : ℕ} {ones twos threes : List ℕ} {counted : Bo
     walk-one m = let (r, rest, v) = more (w .1) h in let (k, q, e) = one-inv (sheet-in s .states) r (here v) m in (rest, one-found (rw e at v) few)
 
     pub walk-two : getD s at 0 ≡ 38 → Walking s (i + 1) (at + 4) ones (twos ++ (at ∷ [])) threes counted
-    walk-two m = let (r, rest, v) = more (w .1) h in let (n, c, q, e) = two-inv (sheet-in s .states) r (here v) m in (rest, two-found (rw e at v) few)
+    walk-two m = let (r, rest, v) = more (w .1) h in let (n, c, q, e) = two-inv (sheet-in s .states) r (here v) m in (rest, two-found (rw e at v) few (in-range ok .few-tags) (few-words ok .1))
 
     module _ (n₁ : getD s at 0 ≢ 33) (n₂ : getD s at 0 ≢ 38) where
       -- where its target stands

@@ -1,11 +1,12 @@
 -- Where the rules of each kind stand among a sheet's words.
 use mathlib.Core.Path.{_≡_}
+use mathlib.Core.Logic.{_≢_}
 use mathlib.Core.Bool.{Bool, true, false, _||_}
 use mathlib.Core.List.{List, [], _∷_, flatMap}
 use mathlib.Core.Option.{none, some}
 use Prim.Native.Nat.{ℕ, _+_, _/_, _%_, _^_, _≤_, _<_}
 use lib.Dec.{eqb}
-use lib.ListN.{getD}
+use lib.ListN.{length, getD}
 use Rattle.model.specs.Lists.{only}
 use Rattle.model.specs.Answers.{Checked, passes, refuses}
 use Rattle.model.specs.Sheet.{Order, Step, Rule, one, two, three, Sheet, order-words, count-words, OrderInRange, CountInRange, sheet-of}
@@ -36,7 +37,7 @@ pub data OneAt (s : List ℕ) : Rule → ℕ → Type 0 where
   one-at : {k q a b : ℕ} → q < 64 → WordsAt s a b (33 ∷ k ∷ q ∷ []) → OneAt s (one k q) a
 
 pub data TwoAt (s : List ℕ) : Rule → ℕ → Type 0 where
-  two-at : {t c q a b : ℕ} → q < 64 → WordsAt s a b (38 ∷ t ∷ c ∷ q ∷ []) → TwoAt s (two t c q) a
+  two-at : {t c q a b : ℕ} → q < 64 → t < 65 → WordsAt s a b (38 ∷ t ∷ c ∷ q ∷ []) → TwoAt s (two t c q) a
 
 -- a rule of kind three from word a on, with its target at word e; one with a count part only where occurrences are counted
 pub data ThreeAt (s : List ℕ) (counted : Bool) (a e : ℕ) : Rule → Type 0 where
@@ -52,6 +53,10 @@ pub data ThreeAt (s : List ℕ) (counted : Bool) (a e : ℕ) : Rule → Type 0 w
 abbrev pub ThreeIn : List ℕ → Bool → Rule → ℕ → Type 0
 ThreeIn s counted r w = ThreeAt s counted (w % 2 ^ 16) (w / 2 ^ 16) r
 
+-- a rule of kind two, in the low 16 bits of a word; the next rule with its tag is above them
+abbrev pub TwoIn : List ℕ → Rule → ℕ → Type 0
+TwoIn s r w = TwoAt s r (w % 2 ^ 16)
+
 -- has a rule a count part
 unfoldable pub with-count : Rule → Bool
 with-count (one k q) = false
@@ -66,8 +71,30 @@ any-count (r ∷ R) = with-count r || any-count R
 -- the places by kind, and whether a rule has a count part
 pub record Indexed (s ones twos threes : List ℕ) (counted : Bool) : Type 0 where
   pub one-places : Along (OneAt s) (rules-of 1 (rules-in s)) ones
-  pub two-places : Along (TwoAt s) (rules-of 2 (rules-in s)) twos
+  pub two-places : Along (TwoIn s) (rules-of 2 (rules-in s)) twos
   pub three-places : Along (ThreeIn s counted) (rules-of 3 (rules-in s)) threes
+
+-- ---- the rules of kind two, chained by tag
+
+unfoldable pub tag : Rule → ℕ
+tag (one k q) = 0
+tag (two a c q) = a
+tag (three o c q) = 0
+
+abbrev pub nth : List Rule → ℕ → Rule
+nth R i = getD R i (one 0 0)
+
+-- the first rule of tag k from index a on is rule i, or there is none and i is the number of rules
+pub record First (R : List Rule) (k a i : ℕ) : Type 0 where
+  pub later : a ≤ i
+  pub few : i ≤ length R
+  pub there : i < length R → tag (nth R i) ≡ k
+  pub least : (j : ℕ) → a ≤ j → j < i → tag (nth R j) ≢ k
+
+-- the rules from index a on are chained: the first of each tag, and behind each rule the next of its tag, in the upper bits of its word
+pub record Chained (R : List Rule) (heads twos : List ℕ) (a : ℕ) : Type 0 where
+  pub head : (k : ℕ) → k < 65 → First R k a (getD heads k 0)
+  pub next : (j : ℕ) → a ≤ j → j < length R → First R (tag (nth R j)) (j + 1) (getD twos j 0 / 2 ^ 16)
 
 -- ---- parts of a rule, and where each ends
 

@@ -1,11 +1,12 @@
-// The index of a sheet's rules: where those of each kind begin, found once in a run.
+// The index of a sheet's rules: where those of each kind begin, and the chains of those of kind two; made once in a run.
 ghost use mathlib.Core.Path.{_≡_};
 ghost use mathlib.Core.Bool.{true};
 ghost use Prim.Native.Nat.{ℕ, _+_, _≤_};
 ghost use lib.ListN.{length, take};
 ghost use Rattle.model.specs.Sheet.{Rule};
+ghost use Rattle.model.proofs.Spans.{Along};
 ghost use Rattle.judge.specs.Parts.{SumAt, StepAt};
-ghost use Rattle.judge.specs.Index.{Passes, Indexed, OrderAt, CountAt, ThreeAt};
+ghost use Rattle.judge.specs.Index.{rules-in, rules-of, Passes, TwoIn, Indexed, Chained, OrderAt, CountAt, ThreeAt};
 use crate::wide;
 
 // where a sheet says how many rules it has, and where they begin
@@ -27,6 +28,9 @@ pub(crate) const COUNTED: u32 = 48;
 
 // the lowest of the upper 16 bits of a word
 pub(crate) const UPPER: usize = 65536;
+
+// heads of chains: one for each tag, and one for 0, which is no rule's
+pub(crate) const HEADS: usize = 65;
 
 // Past the order part that begins at word `at`: number of positions, two words of accepting positions, number of arcs, the arcs.
 pub(crate) fn order_end(sheet: &[u32], at: usize) -> usize
@@ -142,5 +146,23 @@ pub(crate) fn index_rules(
         twos: b,
         threes: c,
         counted,
+    }
+}
+
+// Chains the kind-two rules by their tags: `heads` has the first rule of each tag, and the upper 16 bits of each entry of `twos`
+// the next rule of its tag; where there is none, the number of rules. The last rule is chained first, so that each chain ascends.
+pub(crate) fn chain_tags(sheet: &[u32], twos: &mut [u32], heads: &mut [u32; HEADS])
+    requires { ⌜ Along (TwoIn (now sheet)) (rules-of 2 (rules-in (now sheet))) (now twos) × (length (now twos) ≤ 1024) ⌝ }
+    ensures places { λ _. ⌜ Along (TwoIn (now (sheet .entry))) (rules-of 2 (rules-in (now (sheet .entry)))) (now (twos .exit)) ⌝ }
+    ensures chains { λ _. ⌜ Chained (rules-of 2 (rules-in (now (sheet .entry)))) (now (heads .exit)) (now (twos .exit)) 0 ⌝ }
+{
+    *heads = [twos.len() as u32; HEADS];
+    let mut j = twos.len();
+    while 0 < j {
+        j -= 1;
+        let at = wide(twos[j]) % UPPER;
+        let tag = wide(sheet[at + 1]);
+        twos[j] = (wide(heads[tag]) * UPPER + at) as u32;
+        heads[tag] = j as u32;
     }
 }

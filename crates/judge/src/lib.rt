@@ -57,7 +57,7 @@ fn judge_nodes(sheet: &[u32], tree: &[u32], states: &mut [u32]) -> Judgement
     let outcome = run(
         sheet,
         &ones[..a],
-        &twos[..b],
+        &mut twos[..b],
         &threes[..c],
         counted,
         tree,

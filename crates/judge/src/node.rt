@@ -5,12 +5,13 @@ ghost use lib.ListN.{length, drop};
 ghost use Rattle.model.specs.Tree.{size-at};
 ghost use Rattle.model.specs.Run.{element-targets, element-looks, child-states};
 ghost use Rattle.model.proofs.Spans.{Along};
-ghost use Rattle.judge.specs.Index.{rules-in, rules-of, TwoAt, ThreeIn, Indexed};
+ghost use Rattle.judge.specs.Index.{rules-in, rules-of, TwoIn, ThreeIn, Indexed, Chained};
 ghost use Rattle.judge.specs.Node.{Shaped, Small, words-between, node-targets, node-looks};
 ghost use Rattle.judge.specs.Gathered.{Gathered};
 ghost use Rattle.judge.specs.Found.{Finds};
 use crate::content::Found;
 use crate::content::content;
+use crate::index::HEADS;
 use crate::targets::tag_targets;
 use crate::targets::text_targets;
 use crate::wide;
@@ -59,6 +60,7 @@ fn gather(tree: &[u32], states: &[u32], first: usize, end: usize, words: &mut [u
 fn element(
     sheet: &[u32],
     twos: &[u32],
+    heads: &[u32; HEADS],
     threes: &[u32],
     counted: bool,
     tag: u32,
@@ -68,7 +70,7 @@ fn element(
     end: usize,
     words: &mut [u32],
 ) -> Found
-    requires twos { ⌜ Along (TwoAt (now sheet)) (rules-of 2 (rules-in (now sheet))) (now twos) × (length (now twos) ≤ 1024) ⌝ }
+    requires twos { ⌜ Along (TwoIn (now sheet)) (rules-of 2 (rules-in (now sheet))) (now twos) × (length (now twos) ≤ 1024) × Chained (rules-of 2 (rules-in (now sheet))) (now heads) (now twos) 0 × (tag ≤ 64) ⌝ }
     requires threes { ⌜ Along (ThreeIn (now sheet) counted) (rules-of 3 (rules-in (now sheet))) (now threes) × (length (now threes) ≤ 1024) ⌝ }
     requires tree { ⌜ Shaped (now tree) (length (now states)) × Small (drop first (now states)) ⌝ }
     requires room { ⌜ (end ≤ length (now states)) × (length (now states) ≤ length (now words)) ⌝ }
@@ -88,7 +90,7 @@ fn element(
         return Found { targets: 0, looks };
     }
     Found {
-        targets: tag_targets(sheet, twos, tag, inner),
+        targets: tag_targets(sheet, twos, heads, tag, inner),
         looks: looks + twos.len(),
     }
 }
@@ -98,6 +100,7 @@ pub(crate) fn node(
     sheet: &[u32],
     ones: &[u32],
     twos: &[u32],
+    heads: &[u32; HEADS],
     threes: &[u32],
     counted: bool,
     tree: &[u32],
@@ -105,7 +108,7 @@ pub(crate) fn node(
     i: usize,
     words: &mut [u32],
 ) -> Found
-    requires index { ⌜ Indexed (now sheet) (now ones) (now twos) (now threes) counted ⌝ }
+    requires index { ⌜ Indexed (now sheet) (now ones) (now twos) (now threes) counted × Chained (rules-of 2 (rules-in (now sheet))) (now heads) (now twos) 0 ⌝ }
     requires few { ⌜ (length (now ones) ≤ 1024) × (length (now twos) ≤ 1024) × (length (now threes) ≤ 1024) ⌝ }
     requires tree { ⌜ Shaped (now tree) (length (now states)) × Small (drop (i + 1) (now states)) ⌝ }
     requires room { ⌜ (i < length (now states)) × (length (now states) ≤ length (now words)) ⌝ }
@@ -123,6 +126,7 @@ pub(crate) fn node(
     element(
         sheet,
         twos,
+        heads,
         threes,
         counted,
         symbol,

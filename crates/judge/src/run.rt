@@ -9,6 +9,8 @@ ghost use Rattle.bits.specs.Stands.{Stands};
 ghost use Rattle.judge.specs.Index.{sheet-in, rules-in, Passes, Indexed};
 ghost use Rattle.judge.specs.Node.{Shaped};
 ghost use Rattle.judge.specs.Outcome.{Word, Ends};
+use crate::index::HEADS;
+use crate::index::chain_tags;
 use crate::node::node;
 use model::Judgement;
 
@@ -53,11 +55,11 @@ pub(crate) enum Outcome {
     Two(usize),
 }
 
-// Judge every node; `words` is lent to gather in. Where a node reaches two states, no node has one.
+// Judge every node; `twos` is lent to chain, `words` to gather in. Where a node reaches two states, no node has one.
 pub(crate) fn run(
     sheet: &[u32],
     ones: &[u32],
-    twos: &[u32],
+    twos: &mut [u32],
     threes: &[u32],
     counted: bool,
     tree: &[u32],
@@ -70,11 +72,24 @@ pub(crate) fn run(
     requires room { ⌜ length (now states) ≤ length (now words) ⌝ }
     ensures { λ r. ⌜ Ends (length (now (states .entry))) r (now (states .exit)) (run (rules-in (now (sheet .entry))) (items (now (tree .entry)))) ⌝ }
 {
+    let mut heads = [0u32; HEADS];
+    chain_tags(sheet, twos, &mut heads);
     let mut looks: usize = 0;
     let mut i = states.len();
     while 0 < i {
         i -= 1;
-        let found = node(sheet, ones, twos, threes, counted, tree, states, i, words);
+        let found = node(
+            sheet,
+            ones,
+            twos,
+            &heads,
+            threes,
+            counted,
+            tree,
+            states,
+            i,
+            words,
+        );
         let word = state_word(found.targets);
         if word == SEVERAL {
             clear(states);

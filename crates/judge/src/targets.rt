@@ -1,11 +1,13 @@
 // What the rules of kinds one and two give, as sets of target states.
 ghost use mathlib.Core.Path.{_≡_};
 ghost use mathlib.Core.List.{List, flatMap};
-ghost use Prim.Native.Nat.{ℕ};
+ghost use Prim.Native.Nat.{ℕ, _≤_};
 ghost use Rattle.model.specs.Run.{at-tag, text-targets};
 ghost use Rattle.model.proofs.Spans.{Along};
 ghost use Rattle.bits.specs.Stands.{Stands};
-ghost use Rattle.judge.specs.Index.{rules-in, rules-of, OneAt, TwoAt};
+ghost use Rattle.judge.specs.Index.{rules-in, rules-of, OneAt, TwoIn, Chained};
+use crate::index::HEADS;
+use crate::index::UPPER;
 use crate::wide;
 
 // The targets of the kind-one rules for a kind of text; `ones` says where these rules begin.
@@ -23,18 +25,27 @@ pub(crate) fn text_targets(sheet: &[u32], ones: &[u32], kind: u32) -> u64
     targets
 }
 
-// The targets of the kind-two rules for a tag whose content reaches the states of `inner`; `twos` says where these rules begin.
-pub(crate) fn tag_targets(sheet: &[u32], twos: &[u32], tag: u32, inner: u64) -> u64
-    requires { ⌜ Along (TwoAt (now sheet)) (rules-of 2 (rules-in (now sheet))) (now twos) ⌝ }
+// The targets of the kind-two rules for a tag whose content reaches the states of `inner`, along the tag's chain; `twos` says
+// where these rules begin.
+pub(crate) fn tag_targets(
+    sheet: &[u32],
+    twos: &[u32],
+    heads: &[u32; HEADS],
+    tag: u32,
+    inner: u64,
+) -> u64
+    requires places { ⌜ Along (TwoIn (now sheet)) (rules-of 2 (rules-in (now sheet))) (now twos) ⌝ }
+    requires chains { ⌜ Chained (rules-of 2 (rules-in (now sheet))) (now heads) (now twos) 0 × (tag ≤ 64) ⌝ }
     ensures { λ r. ⌜ ((l : List ℕ) → Stands inner l → Stands r (flatMap (at-tag tag l) (rules-in (now (sheet .entry))))) ⌝ }
 {
     let mut targets: u64 = 0;
-    let mut i = 0;
+    let mut i = wide(heads[wide(tag)]);
     while i < twos.len() {
-        let at = wide(twos[i]);
+        let places = wide(twos[i]);
+        let at = places % UPPER;
         let reached = bits::has(inner, sheet[at + 2]);
-        targets = bits::with_if((sheet[at + 1] == tag) & reached, targets, sheet[at + 3]);
-        i += 1;
+        targets = bits::with_if(reached, targets, sheet[at + 3]);
+        i = places / UPPER;
     }
     targets
 }

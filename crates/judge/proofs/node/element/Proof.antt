@@ -22,7 +22,7 @@ element-spec =
     (λ c κs. (c .before .before .before .before .before .before .before .before .before .before .before .before .before .before .pre .1 .0 .0, (c .before .before .before .before .before .before .before .before .before .before .before .before .before .before .pre .1 .0 .1, children-words _ (c .before .before .before .before .before .before .before .before .before .before .before .before .before .before .pre .1 .1 .0 .0) _ _ (c .before .before .before .before .before .before .before .before .before .before .before .before .before .before .pre .1 .1 .0 .1) (c .before .before .before .before .before .before .before .before .before .before .before .before .before .before .pre .1 .1 .1 .0) _ (c .before .before .before .before .before .before .gather .ensures) (c .before .before .n .given .1))))
     (λ c. search needs)
     (λ c. element-unreached _ _ _ _ (c .before .before .before .before .before .before .before .before .gather .ensures) (c .before .before .before .before .n .given .1) (c .before .content .ensures) (c .if1 .taken))
-    (λ c κs. c .before .before .before .before .before .before .before .before .before .before .before .before .before .before .before .before .pre .0 .0)
+    (λ c κs. (c .before .before .before .before .before .before .before .before .before .before .before .before .before .before .before .before .pre .0 .0, (c .before .before .before .before .before .before .before .before .before .before .before .before .before .before .before .before .pre .0 .2, c .before .before .before .before .before .before .before .before .before .before .before .before .before .before .before .before .pre .0 .3)))
     (λ c. omega (arith, c .before .before .content .ensures .few, c .before .before .before .before .before .before .before .before .before .before .before .before .before .before .before .before .before .pre .0 .1))
     (λ c. search needs)
     (λ c. element-reached _ _ _ _ (c .before .before .before .before .before .before .before .before .before .gather .ensures) (c .before .before .before .before .before .n .given .1) (c .before .before .content .ensures) (c .before .if1 .left) (c .before .before .before .before .before .before .before .before .before .before .before .before .before .before .before .before .before .pre .0 .0) (c .before .before .before .before .before .before .before .before .before .before .before .before .before .before .before .before .before .pre .0 .1) (c .tag-targets .ensures)))
