@@ -1,4 +1,4 @@
-// The index of a sheet's rules: where those of each kind begin, found once in a run.
+// The index of a sheet's rules: where those of each kind begin, and the chains of those of kind two; made once in a run.
 ghost use mathlib.Core.Path.{_≡_};
 ghost use mathlib.Core.Bool.{true};
 ghost use Prim.Native.Nat.{ℕ, _+_, _≤_};
@@ -28,6 +28,9 @@ pub(crate) const COUNTED: u32 = 48;
 
 // the lowest of the upper 16 bits of a word
 pub(crate) const UPPER: usize = 65536;
+
+// heads of chains: one for each tag, and one for 0, which is no rule's
+pub(crate) const HEADS: usize = 65;
 
 // Past the order part that begins at word `at`: number of positions, two words of accepting positions, number of arcs, the arcs.
 pub(crate) fn order_end(sheet: &[u32], at: usize) -> usize
