@@ -98,9 +98,6 @@ pub(crate) struct Index {
     pub(crate) counted: bool,
 }
 
-// heads of chains: one for each tag, and one for 0, which is no rule's
-pub(crate) const HEADS: usize = 65;
-
 // Where the rules of each kind begin, to the front of three arrays: for kind three with where its target stands, in the upper 16 bits.
 pub(crate) fn index_rules(
     sheet: &[u32],
