@@ -1,9 +1,9 @@
--- `text_limits::read_front` hands on parts within their slices.
+-- `parts::read_front` hands on parts within their slices.
 use mathlib.Core.Path.{sym}
 use lib.Seq.{length-take-le}
 use borrow.Author.Needs.{needs}
-use Rattle.text_limits.proofs.read_front.Statement.{statement}
-use Rattle.text_limits.proofs.read_front.Tie as tie
+use Rattle.text_limits.proofs.parts.read_front.Statement.{statement}
+use Rattle.text_limits.proofs.parts.read_front.Tie as tie
 
 pub read-front-spec : {M : Type 1} → statement M
 read-front-spec =

@@ -1,11 +1,11 @@
--- `text_limits::tile` stays within the slice, and ends.
+-- `parts::tile` stays within the slice, and ends.
 use mathlib.Core.Path.{_≡_, _∙_}
 use Prim.Native.Nat.{_-_}
 use native.Mathlib.Omega.{arith}
 use borrow.Author.Needs.{needs}
 use lib.ListN.{length, length-set}
-use Rattle.text_limits.proofs.tile.Statement.{statement}
-use Rattle.text_limits.proofs.tile.Tie as tie
+use Rattle.text_limits.proofs.parts.tile.Statement.{statement}
+use Rattle.text_limits.proofs.parts.tile.Tie as tie
 
 abbrev Inv-loop : tie.InvT-loop
 Inv-loop text₀ piece i₀ text i = length text ≡ length text₀

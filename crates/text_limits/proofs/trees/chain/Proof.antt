@@ -1,12 +1,12 @@
--- `text_limits::chain` stays within the slice, and ends.
+-- `trees::chain` stays within the slice, and ends.
 use mathlib.Core.Path.{_≡_}
 use mathlib.Core.List.{List}
 use Prim.Native.Nat.{ℕ, _+_, _≤_}
 use native.Mathlib.Omega.{arith}
 use borrow.Author.Needs.{needs}
 use lib.ListN.{length, length-set, set}
-use Rattle.text_limits.proofs.chain.Statement.{statement}
-use Rattle.text_limits.proofs.chain.Tie as tie
+use Rattle.text_limits.proofs.trees.chain.Statement.{statement}
+use Rattle.text_limits.proofs.trees.chain.Tie as tie
 
 abbrev Inv-loop : tie.InvT-loop
 Inv-loop words₀ nodes size₀ at₀ words size at = (at ≤ length words) × (length words ≡ length words₀)

@@ -1,11 +1,11 @@
--- `text_limits::put` stays within both slices, and ends.
+-- `parts::put` stays within both slices, and ends.
 use mathlib.Core.Path.{_≡_, _∙_}
 use Prim.Native.Nat.{_-_, _≤_}
 use native.Mathlib.Omega.{arith}
 use borrow.Author.Needs.{needs}
 use lib.ListN.{length, length-set}
-use Rattle.text_limits.proofs.put.Statement.{statement}
-use Rattle.text_limits.proofs.put.Tie as tie
+use Rattle.text_limits.proofs.parts.put.Statement.{statement}
+use Rattle.text_limits.proofs.parts.put.Tie as tie
 
 abbrev Inv-loop : tie.InvT-loop
 Inv-loop text₀ at bytes i₀ k₀ text i k = (k ≤ length bytes) × (length text ≡ length text₀)
