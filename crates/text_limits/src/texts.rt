@@ -1,7 +1,6 @@
 // Short texts, refusals 2 to 6, and the lent tree.
 use crate::parts::LIST;
 use crate::parts::OPEN_32;
-use crate::parts::read_front;
 use crate::parts::read_joined;
 use crate::parts::read_lines;
 
@@ -72,22 +71,40 @@ fn long_names() {
     );
 }
 
-// ---- the trees of texts
+// ---- the lent buffer
 
-fn show(what: &[u8], text: &[u8]) {
+// Reads into a buffer of 8 words. What was tried is the text.
+fn show(text: &[u8]) {
     let mut tree = [7u32; 8];
-    say::answer(what, reader::read(&LIST, text, &mut tree));
+    say::answer(text, reader::read(&LIST, text, &mut tree));
     say::words(b"buffer", &tree);
 }
 
 // Digits only is asked of the trimmed bytes.
 fn kinds() {
-    show(b"a number between white", b"<a> 12\n</a>");
-    show(b"white between digits", b"<a> 1 2 </a>");
-    show(b"a letter behind digits", b"<a> 12 x </a>");
-    show(b"a hyphen before a digit", b"<a>-1</a>");
-    show(b"/ before a digit", b"<a>/1</a>");
-    show(b"white alone in an element", b"<a> </a>");
+    show(b"<a> 12 </a>");
+    show(b"<a> 1 2 </a>");
+    show(b"<a> 12 x </a>");
+    show(b"<a>-1</a>");
+    show(b"<a>/1</a>");
+    show(b"<a> </a>");
+}
+
+// 8 words, 4 words, 12 words; and 3 before 22.
+fn sizes() {
+    show(b"<a>12</a>");
+    show(b"<ct/>");
+    show(b"<a>12<ct/></a>");
+    show(b"<a>12<ct/><");
+}
+
+fn short_buffer() {
+    let mut tree = [7u32; 7];
+    say::answer(
+        b"8 of 7 words",
+        reader::read(&LIST, b"<a>12</a>", &mut tree),
+    );
+    say::words(b"buffer", &tree);
 }
 
 // ---- depth: 6
@@ -107,22 +124,6 @@ fn depths() {
     read_lines(&OPEN_32, b"<a>\n<z\n<\n<1\n<!\n");
 }
 
-// ---- the order of refusals, and the lent buffer
-
-fn orders() {
-    let mut tree = [7u32; 8];
-    say::answer(b"8 before 2", reader::read(b"", b"&", &mut tree));
-    read_front(b"3 before 22", b"<a>12<", 6, &mut tree, 7);
-    read_front(b"22", b"<a>12</a>", 9, &mut tree, 7);
-    say::words(b"buffer", &tree);
-}
-
-fn sizes() {
-    show(b"8 of 8 words", b"<a>12</a>");
-    show(b"4 of 8 words", b"<ct/>");
-    show(b"12 words", b"<a>12<ct/></a>");
-}
-
 pub(crate) fn all() {
     white_in_tags();
     first_letters();
@@ -132,7 +133,7 @@ pub(crate) fn all() {
     names();
     long_names();
     kinds();
-    depths();
-    orders();
     sizes();
+    short_buffer();
+    depths();
 }
