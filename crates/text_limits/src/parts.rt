@@ -43,7 +43,7 @@ pub(crate) fn read_front(what: &[u8], text: &[u8], n: usize, tree: &mut [u32], w
     }
 }
 
-// Reads the text that two parts make.
+// Reads the text that two parts make, up to 16,400 bytes of it.
 pub(crate) fn read_joined(what: &[u8], front: &[u8], tail: &[u8]) {
     let mut tree = [0u32; 16384];
     let mut text = [0u8; 16400];

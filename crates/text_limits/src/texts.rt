@@ -12,7 +12,10 @@ const LONG_LIST: [u8; 25] = *b"abcdefghijklmnopqrstuvwx\n";
 // White may stand after a tag's name, and nowhere else in a tag.
 fn white_in_tags() {
     read_joined(b"white after names", b" <a ><ct\t/></a\n\r>", b" ");
-    read_lines(b"", b"< a/>\n<a></ a>\n<a/ >\n<a a/>\n<a></a a>\n");
+    read_lines(
+        b"",
+        b"< a/>\n<a>< a/>\n<a></ a>\n<a/ >\n<a a/>\n<a></a a>\n",
+    );
 }
 
 // A start tag is < and a letter, an end tag </ and a letter.
@@ -20,12 +23,14 @@ fn first_letters() {
     read_lines(b"", b"<a/>\n<1/>\n<!\n<&\n<a></1>\n<a></>\n<a></&\n");
 }
 
+// The end, where a form can't end.
 fn ends() {
     read_joined(b"the empty text", b"", b"");
     read_joined(b"white alone", b" \n", b"");
     read_lines(b"", b"<\n<a><\n<a></\n<a/\n<a>x\n<a></a\n");
 }
 
+// White alone may stand before and after the root.
 fn around_the_root() {
     read_lines(b"", b"</a>\nx<a/>\n ><a/>\n &<a/>\n");
     read_lines(
@@ -34,6 +39,7 @@ fn around_the_root() {
     );
 }
 
+// A text has any byte from 33 to 126 but <, > and &.
 fn content() {
     read_lines(
         b"",
@@ -45,7 +51,7 @@ fn content() {
 
 // ---- names: 4 and 5
 
-// A name goes on as long as it can.
+// A name goes on as long as it can, and nothing after it matters to 4 and 5. An end tag names the innermost open element.
 fn names() {
     read_lines(b"", b"<c\n<ct\n<ct-1/>\n<q&\n<ct&\n");
     read_lines(
