@@ -92,3 +92,13 @@ pub several-found : (R : List Rule) (words : List ℕ) → length words ≢ 1 �
     → Finds (2 ^ 42) targets looks (flatMap (at-content (states-of words)) R) (tries R (states-of words))
     → Finds (2 ^ 42) targets looks (content-targets R (states-of words)) (unless-one (states-of words) (tries R (states-of words)))
 several-found R words n f = let (a, b) = tried R (states-of words) (λ e. n (length-states words ∙ e)) in rw (a, b) f
+
+-- ---- no child
+
+pub no-words : StateWords []
+no-words = record { each = λ k h. absurd (omega arith); few = omega arith }
+
+pub nothing-found : (R : List Rule) {targets looks : ℕ} → Finds (2 ^ 42) targets looks (content-targets R (states-of [])) (unless-one (states-of []) (tries R (states-of [])))
+    → Finds (2 ^ 42) targets looks (content-targets R []) (tries R [])
+unfolding states-of
+nothing-found R f = f

@@ -12,7 +12,7 @@ use borrow.Author.Tests.{lt-ltb, le-ltb}
 use Rattle.model.specs.Lists.{has, only}
 use Rattle.model.specs.Tree.{symbol-at, size-at}
 use Rattle.model.specs.Sheet.{Rule, one, two, three}
-use Rattle.model.specs.Run.{at-tag, text-targets, content-targets, element-targets, tries, unless-one, element-looks, Item, items, child-words, child-states}
+use Rattle.model.specs.Run.{at-tag, text-targets, content-targets, element-targets, of-kind, tries, unless-one, unless-none, element-looks, Item, items, child-words, child-states}
 use Rattle.model.proofs.Spans.{Along}
 use Rattle.model.proofs.Tests.{never}
 use Rattle.bits.specs.Stands.{Stands}
@@ -86,6 +86,22 @@ no-tag a (one k q ∷ R) = no-tag a R
 no-tag a (two b c q ∷ R) = rw (and-false (eqb b a)) (no-tag a R)
 no-tag a (three o c q ∷ R) = no-tag a R
 
+-- what stands inside an element, and the element: the states of its content, and its looks
+module _ (R : List Rule) (a : ℕ) {inner looks : ℕ} (l : List ℕ) (n : ℕ) (h : Finds (2 ^ 42) inner looks l n) where
+  -- the content reaches no state
+  pub tagged-unreached : inner ≡ 0 → Finds (2 ^ 43) 0 looks (flatMap (at-tag a l) R) (n + unless-none l (of-kind 2 R))
+  tagged-unreached e =
+      let none = stands-none (h .reached) e in
+      rw (none, no-tag a R) (record { reached = none-stands; number = omega (arith, h .number); few = omega (arith, h .few) })
+
+  -- it reaches some
+  pub tagged-reached : inner ≢ 0 → {s twos : List ℕ} → Along (TwoIn s) (rules-of 2 R) twos → length twos ≤ 1024 → {targets : ℕ}
+      → ((l : List ℕ) → Stands inner l → Stands targets (flatMap (at-tag a l) R))
+      → Finds (2 ^ 43) targets (looks + length twos) (flatMap (at-tag a l) R) (n + unless-none l (of-kind 2 R))
+  tagged-reached some-state t few reach =
+      let (x, xs, e) = stands-some (h .reached) some-state in
+      record { reached = reach l (h .reached); number = rw e (omega (arith, h .number, number-of 2 R, along-length t)); few = omega (arith, h .few) }
+
 module _ (R : List Rule) (a : ℕ) (ws : List ℕ) where
   -- a child has no state
   pub element-stateless : has ws 0 ≡ true → Finds (2 ^ 43) 0 0 (element-targets R a (child-states ws)) (element-looks R (child-states ws))
@@ -93,30 +109,14 @@ module _ (R : List Rule) (a : ℕ) (ws : List ℕ) where
   element-stateless f = rw (states-none ws f) (record { reached = none-stands; number = refl; few = omega arith })
 
   -- all have one, and these words are gathered
-  module _ {children : Children} {n : ℕ} (words : List ℕ) (got : Gathered children ws words) (all : children ≡ Number n) {inner looks : ℕ}
-      (h : Finds (2 ^ 42) inner looks (content-targets R (states-of (take n words))) (unless-one (states-of (take n words)) (tries R (states-of (take n words))))) where
-    f : has ws 0 ≡ false
-    f = all-gathered ws words got all .2
-
-    g : Finds (2 ^ 42) inner looks (content-targets R (states-of ws)) (unless-one (states-of ws) (tries R (states-of ws)))
-    g = rw (all-gathered ws words got all .0) at h
-
-    -- the content reaches no state
-    pub element-unreached : inner ≡ 0 → Finds (2 ^ 43) 0 looks (element-targets R a (child-states ws)) (element-looks R (child-states ws))
-    unfolding element-targets element-looks
-    element-unreached e =
-        let none = stands-none (g .reached) e in
-        rw (states-some ws f, none, no-tag a R) (record { reached = none-stands; number = omega (arith, g .number); few = omega (arith, g .few) })
-
-    -- it reaches some
-    pub element-reached : inner ≢ 0 → {s twos : List ℕ} → Along (TwoIn s) (rules-of 2 R) twos → length twos ≤ 1024 → {targets : ℕ}
-        → ((l : List ℕ) → Stands inner l → Stands targets (flatMap (at-tag a l) R))
-        → Finds (2 ^ 43) targets (looks + length twos) (element-targets R a (child-states ws)) (element-looks R (child-states ws))
-    unfolding element-targets element-looks
-    element-reached n t few reach =
-        let (x, xs, e) = stands-some (g .reached) n in
-        let r = reach (content-targets R (states-of ws)) (g .reached) in
-        rw (states-some ws f) (record { reached = r; number = rw e (omega (arith, g .number, number-of 2 R, along-length t)); few = omega (arith, g .few) })
+  pub element-tagged : {children : Children} {n : ℕ} (words : List ℕ) → Gathered children ws words → children ≡ Number n → {inner looks targets all : ℕ}
+      → Finds (2 ^ 42) inner looks (content-targets R (states-of (take n words))) (unless-one (states-of (take n words)) (tries R (states-of (take n words))))
+      → ((l : List ℕ) (n : ℕ) → Finds (2 ^ 42) inner looks l n → Finds (2 ^ 43) targets all (flatMap (at-tag a l) R) (n + unless-none l (of-kind 2 R)))
+      → Finds (2 ^ 43) targets all (element-targets R a (child-states ws)) (element-looks R (child-states ws))
+  unfolding element-targets element-looks
+  element-tagged words got number h tagged =
+      let (same, _, full) = all-gathered ws words got number in
+      rw (states-some ws full) (tagged _ _ (rw same at h))
 
 -- ---- a node, by its symbol
 
@@ -132,3 +132,12 @@ module _ (R : List Rule) (tree states : List ℕ) (i : ℕ) where
       → Finds (2 ^ 43) targets looks (node-targets R tree states i) (node-looks R tree states i)
   unfolding node-targets node-looks
   element-found h e f = rw (le-ltb 64 (symbol-at tree i) h) (rw e at f)
+
+  -- nothing is inside
+  pub leaf-found : symbol-at tree i ≤ 64 → size-at tree i ≡ 1 → {targets looks : ℕ}
+      → Finds (2 ^ 43) targets looks (flatMap (at-tag (symbol-at tree i) (content-targets R [])) R) (tries R [] + unless-none (content-targets R []) (of-kind 2 R))
+      → Finds (2 ^ 43) targets looks (node-targets R tree states i) (node-looks R tree states i)
+  unfolding node-targets node-looks element-targets element-looks child-words child-states
+  leaf-found h e f =
+      let none : i + 1 - (i + 1) ≡ 0 = omega arith in
+      rw (le-ltb 64 (symbol-at tree i) h, e, none) f

@@ -1,9 +1,10 @@
 // A node: the states that it reaches, and the looks that it takes.
 ghost use mathlib.Core.Path.{_≡_};
-ghost use Prim.Native.Nat.{_+_, _*_, _^_, _≤_, _<_};
+ghost use mathlib.Core.List.{List, [], flatMap};
+ghost use Prim.Native.Nat.{ℕ, _+_, _*_, _^_, _≤_, _<_};
 ghost use lib.ListN.{length, drop};
 ghost use Rattle.model.specs.Tree.{size-at};
-ghost use Rattle.model.specs.Run.{element-targets, element-looks, child-states};
+ghost use Rattle.model.specs.Run.{at-tag, content-targets, element-targets, of-kind, tries, unless-none, element-looks, child-states};
 ghost use Rattle.model.proofs.Spans.{Along};
 ghost use Rattle.judge.specs.Index.{rules-in, rules-of, TwoIn, ThreeIn, Indexed, Chained};
 ghost use Rattle.judge.specs.Node.{Shaped, Small, words-between, node-targets, node-looks};
@@ -56,6 +57,23 @@ fn gather(tree: &[u32], states: &[u32], first: usize, end: usize, words: &mut [u
     Children::Number(n)
 }
 
+// What content reaches in an element with a tag: the kind-two rules are looked at where the content reaches a state.
+fn tagged(sheet: &[u32], twos: &[u32], heads: &[u32; HEADS], tag: u32, inside: Found) -> Found
+    requires twos { ⌜ Along (TwoIn (now sheet)) (rules-of 2 (rules-in (now sheet))) (now twos) × (length (now twos) ≤ 1024) × Chained (rules-of 2 (rules-in (now sheet))) (now heads) (now twos) 0 × (tag ≤ 64) ⌝ }
+    requires few { ⌜ inside .looks ≤ 2 ^ 42 ⌝ }
+    ensures { λ f. ⌜ ((l : List ℕ) (n : ℕ) → Finds (2 ^ 42) (inside .targets) (inside .looks) l n → Finds (2 ^ 43) (f .targets) (f .looks) (flatMap (at-tag tag l) (rules-in (now (sheet .entry)))) (n + unless-none l (of-kind 2 (rules-in (now (sheet .entry)))))) ⌝ }
+{
+    let inner = inside.targets;
+    let looks = inside.looks;
+    if inner == 0 {
+        return Found { targets: 0, looks };
+    }
+    Found {
+        targets: tag_targets(sheet, twos, heads, tag, inner),
+        looks: looks + twos.len(),
+    }
+}
+
 // The states that an element reaches: its content stands from node `first` up to node `end`. `words` is lent to gather in.
 fn element(
     sheet: &[u32],
@@ -84,18 +102,10 @@ fn element(
         };
     };
     let inside = content(sheet, threes, counted, &words[..n]);
-    let inner = inside.targets;
-    let looks = inside.looks;
-    if inner == 0 {
-        return Found { targets: 0, looks };
-    }
-    Found {
-        targets: tag_targets(sheet, twos, heads, tag, inner),
-        looks: looks + twos.len(),
-    }
+    tagged(sheet, twos, heads, tag, inside)
 }
 
-// The states that node i reaches, a text or an element.
+// The states that node i reaches, a text or an element; `nothing` is what content without children reaches.
 pub(crate) fn node(
     sheet: &[u32],
     ones: &[u32],
@@ -103,12 +113,14 @@ pub(crate) fn node(
     heads: &[u32; HEADS],
     threes: &[u32],
     counted: bool,
+    nothing: Found,
     tree: &[u32],
     states: &[u32],
     i: usize,
     words: &mut [u32],
 ) -> Found
     requires index { ⌜ Indexed (now sheet) (now ones) (now twos) (now threes) counted × Chained (rules-of 2 (rules-in (now sheet))) (now heads) (now twos) 0 ⌝ }
+    requires nothing { ⌜ Finds (2 ^ 42) (nothing .targets) (nothing .looks) (content-targets (rules-in (now sheet)) []) (tries (rules-in (now sheet)) []) ⌝ }
     requires few { ⌜ (length (now ones) ≤ 1024) × (length (now twos) ≤ 1024) × (length (now threes) ≤ 1024) ⌝ }
     requires tree { ⌜ Shaped (now tree) (length (now states)) × Small (drop (i + 1) (now states)) ⌝ }
     requires room { ⌜ (i < length (now states)) × (length (now states) ≤ length (now words)) ⌝ }
@@ -122,7 +134,10 @@ pub(crate) fn node(
             looks: ones.len(),
         };
     }
-    let end = i + size_at(tree, i);
+    let size = size_at(tree, i);
+    if size == 1 {
+        return tagged(sheet, twos, heads, symbol, nothing);
+    }
     element(
         sheet,
         twos,
@@ -133,7 +148,7 @@ pub(crate) fn node(
         tree,
         states,
         i + 1,
-        end,
+        i + size,
         words,
     )
 }

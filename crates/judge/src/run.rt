@@ -9,6 +9,7 @@ ghost use Rattle.bits.specs.Stands.{Stands};
 ghost use Rattle.judge.specs.Index.{sheet-in, rules-in, Passes, Indexed};
 ghost use Rattle.judge.specs.Node.{Shaped};
 ghost use Rattle.judge.specs.Outcome.{Word, Ends};
+use crate::content::content;
 use crate::index::HEADS;
 use crate::index::chain_tags;
 use crate::node::node;
@@ -74,6 +75,8 @@ pub(crate) fn run(
 {
     let mut heads = [0u32; HEADS];
     chain_tags(sheet, twos, &mut heads);
+    // content without children is the same wherever it stands
+    let nothing = content(sheet, threes, counted, &words[..0]);
     let mut looks: usize = 0;
     let mut i = states.len();
     while 0 < i {
@@ -85,6 +88,7 @@ pub(crate) fn run(
             &heads,
             threes,
             counted,
+            nothing,
             tree,
             states,
             i,

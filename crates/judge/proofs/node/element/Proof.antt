@@ -1,10 +1,9 @@
--- `node::element` meets its contract: a child without a state, content that reaches no state, and content that reaches some.
+-- `node::element` meets its contract: a child without a state, or content.
 use mathlib.Core.Path.{sym}
-use native.Mathlib.Omega.{arith}
 use borrow.Author.Needs.{needs}
 use lib.Seq.{length-take-le}
+use Rattle.judge.proofs.ElementLaws.{children-words, element-stateless, element-tagged}
 use Rattle.judge.proofs.GatherLaws.{all-gathered, none-gathered}
-use Rattle.judge.proofs.ElementLaws.{children-words, element-stateless, element-unreached, element-reached}
 use Rattle.judge.proofs.node.element.Statement.{statement}
 use Rattle.judge.proofs.node.element.Tie as tie
 
@@ -20,9 +19,6 @@ element-spec =
     (λ c. all-gathered _ _ (c .before .before .before .before .before .gather .ensures) (c .before .n .given .1) .1)
     (λ c. sym (length-take-le _ _ (all-gathered _ _ (c .before .before .before .before .before .before .gather .ensures) (c .before .before .n .given .1) .1)))
     (λ c κs. (c .before .before .before .before .before .before .before .before .before .before .before .before .before .before .pre .1 .0 .0, (c .before .before .before .before .before .before .before .before .before .before .before .before .before .before .pre .1 .0 .1, children-words _ (c .before .before .before .before .before .before .before .before .before .before .before .before .before .before .pre .1 .1 .0 .0) _ _ (c .before .before .before .before .before .before .before .before .before .before .before .before .before .before .pre .1 .1 .0 .1) (c .before .before .before .before .before .before .before .before .before .before .before .before .before .before .pre .1 .1 .1 .0) _ (c .before .before .before .before .before .before .gather .ensures) (c .before .before .n .given .1))))
+    (λ c κs. (c .before .before .before .before .before .before .before .before .before .before .before .before .before .before .before .pre .0, c .content .ensures .few))
     (λ c. search needs)
-    (λ c. element-unreached _ _ _ _ (c .before .before .before .before .before .before .before .before .gather .ensures) (c .before .before .before .before .n .given .1) (c .before .content .ensures) (c .if1 .taken))
-    (λ c κs. (c .before .before .before .before .before .before .before .before .before .before .before .before .before .before .before .before .pre .0 .0, (c .before .before .before .before .before .before .before .before .before .before .before .before .before .before .before .before .pre .0 .2, c .before .before .before .before .before .before .before .before .before .before .before .before .before .before .before .before .pre .0 .3)))
-    (λ c. omega (arith, c .before .before .content .ensures .few, c .before .before .before .before .before .before .before .before .before .before .before .before .before .before .before .before .before .pre .0 .1))
-    (λ c. search needs)
-    (λ c. element-reached _ _ _ _ (c .before .before .before .before .before .before .before .before .before .gather .ensures) (c .before .before .before .before .before .n .given .1) (c .before .before .content .ensures) (c .before .if1 .left) (c .before .before .before .before .before .before .before .before .before .before .before .before .before .before .before .before .before .pre .0 .0) (c .before .before .before .before .before .before .before .before .before .before .before .before .before .before .before .before .before .pre .0 .1) (c .tag-targets .ensures)))
+    (λ c. element-tagged _ _ _ _ (c .before .before .before .before .before .before .before .before .gather .ensures) (c .before .before .before .before .n .given .1) (c .before .content .ensures) (c .tagged .ensures)))
