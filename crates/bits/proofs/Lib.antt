@@ -1,4 +1,4 @@
-mod BitLaws
+pub mod BitLaws
 mod MemberLaws
 pub mod SetLaws
 pub mod GistLaws

@@ -92,6 +92,20 @@ fn try_all(sheet: &[u32], threes: &[u32], words: &[u32], counts: &[u32; 64]) -> 
     Found { targets, looks }
 }
 
+// What content reaches with no child or several: every kind-three rule is tried. Occurrences are counted once for all of them.
+fn several(sheet: &[u32], threes: &[u32], counted: bool, words: &[u32]) -> Found
+    requires rules { ⌜ Along (ThreeIn (now sheet) counted) (rules-of 3 (rules-in (now sheet))) (now threes) ⌝ }
+    requires few { ⌜ length (now threes) ≤ 1024 ⌝ }
+    requires words { ⌜ StateWords (now words) ⌝ }
+    ensures { λ f. ⌜ Finds (2 ^ 42) (f .targets) (f .looks) (flatMap (at-content (states-of (now (words .entry)))) (rules-in (now (sheet .entry)))) (tries (rules-in (now (sheet .entry))) (states-of (now (words .entry)))) ⌝ }
+{
+    let mut counts = [0u32; 64];
+    if counted {
+        occurrences(words, &mut counts);
+    }
+    try_all(sheet, threes, words, &counts)
+}
+
 // The states that content reaches whose children have these state words. One child's state is its content's, and no rule is tried.
 pub(crate) fn content(sheet: &[u32], threes: &[u32], counted: bool, words: &[u32]) -> Found
     requires rules { ⌜ Along (ThreeIn (now sheet) counted) (rules-of 3 (rules-in (now sheet))) (now threes) ⌝ }
@@ -105,9 +119,5 @@ pub(crate) fn content(sheet: &[u32], threes: &[u32], counted: bool, words: &[u32
             looks: 0,
         };
     }
-    let mut counts = [0u32; 64];
-    if counted {
-        occurrences(words, &mut counts);
-    }
-    try_all(sheet, threes, words, &counts)
+    several(sheet, threes, counted, words)
 }

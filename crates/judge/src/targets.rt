@@ -1,7 +1,11 @@
 // What the rules of kinds one and two give, as sets of target states.
 ghost use mathlib.Core.Path.{_≡_};
+ghost use mathlib.Core.Bool.{_&&_, _||_};
 ghost use mathlib.Core.List.{List, flatMap};
-ghost use Prim.Native.Nat.{ℕ, _≤_};
+ghost use Prim.Native.Nat.{ℕ, _+_, _≤_, _<_};
+ghost use lib.Dec.{eqb};
+ghost use lib.ListN.{length, getD};
+ghost use Rattle.model.specs.Sheet.{bit, mask};
 ghost use Rattle.model.specs.Run.{at-tag, text-targets};
 ghost use Rattle.model.proofs.Spans.{Along};
 ghost use Rattle.bits.specs.Stands.{Stands};
@@ -25,6 +29,18 @@ pub(crate) fn text_targets(sheet: &[u32], ones: &[u32], kind: u32) -> u64
     targets
 }
 
+// The set with the target of the kind-two rule that begins at word `at`, if the rule's inner state is one of `inner`.
+fn with_target(sheet: &[u32], at: usize, inner: u64, targets: u64) -> u64
+    requires { ⌜ at + 3 < length (now sheet) ⌝ }
+    ensures { λ r. ⌜ r ≡ mask 64 (λ j. bit targets j || (bit inner (getD (now (sheet .entry)) (at + 2) 0) && eqb j (getD (now (sheet .entry)) (at + 3) 0))) ⌝ }
+{
+    // a branch: most rules of a tag have another inner state
+    if bits::has(inner, sheet[at + 2]) {
+        return bits::with_if(true, targets, sheet[at + 3]);
+    }
+    targets
+}
+
 // The targets of the kind-two rules for a tag whose content reaches the states of `inner`, along the tag's chain; `twos` says
 // where these rules begin.
 pub(crate) fn tag_targets(
@@ -42,9 +58,7 @@ pub(crate) fn tag_targets(
     let mut i = wide(heads[wide(tag)]);
     while i < twos.len() {
         let places = wide(twos[i]);
-        let at = places % UPPER;
-        let reached = bits::has(inner, sheet[at + 2]);
-        targets = bits::with_if(reached, targets, sheet[at + 3]);
+        targets = with_target(sheet, places % UPPER, inner, targets);
         i = places / UPPER;
     }
     targets

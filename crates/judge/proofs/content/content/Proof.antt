@@ -1,9 +1,6 @@
 -- `content::content` meets its contract: one child apart from none and several.
-use mathlib.Core.Path.{sym, _∙_}
-use mathlib.Core.Logic.{⊎-elim}
 use native.Mathlib.Omega.{arith}
 use borrow.Author.Needs.{needs}
-use Rattle.model.proofs.Tests.{never}
 use Rattle.judge.proofs.ContentLaws.{lone-found, several-found}
 use Rattle.judge.proofs.content.content.Statement.{statement}
 use Rattle.judge.proofs.content.content.Tie as tie
@@ -16,6 +13,5 @@ content-spec =
     (λ c. omega (arith, c .before .before .before .before .before .pre .1 .1 .each 0 (omega arith)))
     (λ c κs. search needs)
     (λ c. lone-found _ _ (c .before .before .before .before .before .before .pre .1 .1) (c .before .before .if1 .taken) (c .with-if .ensures))
-    (λ c κs. (c .before .before .before .before .before .before .pre .1 .1, search needs))
-    (λ c κs. ((_, c .before .before .before .before .before .before .pre .0, λ e. ⊎-elim (λ w. rw (w .3) (w .2 .ensures)) (λ w. never (sym (w .0 .left) ∙ e)) (c .before .if2 .came)), (c .before .before .before .before .before .before .pre .1 .0, c .before .before .before .before .before .before .pre .1 .1)))
-    (λ c. several-found _ _ (c .before .before .before .if1 .left) (c .try-all .ensures)))
+    (λ c κs. search needs)
+    (λ c. several-found _ _ (c .before .if1 .left) (c .several .ensures)))
