@@ -63,25 +63,9 @@ trying-all R t short {w} {i} g h =
     rw (contents-of w R, tries-of R w)
     (record { reached = adding-all (g .adding) end; number = omega (arith, rw (drop-of-length-le (rules-of 3 R) end) at (g .taking)); few = omega (arith, g .few) })
 
--- ---- one child, and none or several
+-- ---- no child, and several
 
--- one word is one state
-lone : (words : List ℕ) → length words ≡ 1 → states-of words ≡ (getD words 0 0 - 1) ∷ []
-unfolding states-of
-lone [] h = absurd (omega arith)
-lone (x ∷ []) h = refl
-lone (x ∷ y ∷ words) h = absurd (omega arith)
-
--- with one child its state is the content's
-pub lone-found : (R : List Rule) (words : List ℕ) → StateWords words → length words ≡ 1 → {r : ℕ}
-    → r ≡ mask 64 (λ j. bit 0 j || (true && eqb j (getD words 0 0 - 1))) → Finds (2 ^ 42) r 0 (content-targets R (states-of words)) (unless-one (states-of words) (tries R (states-of words)))
-unfolding content-targets only
-lone-found R words ok h m =
-    let (low, high) = ok .each 0 (omega arith) in
-    let q : ℕ = getD words 0 0 - 1 in
-    rw (lone words h) (record { reached = gathers-all (gathers-more true q (omega arith) m (gathers-none (q ∷ []))); number = refl; few = omega arith })
-
--- with none or several the rules are tried
+-- the rules are tried
 tried : (R : List Rule) (w : List ℕ) → length w ≢ 1 → (content-targets R w ≡ flatMap (at-content w) R) × (unless-one w (tries R w) ≡ tries R w)
 unfolding content-targets
 tried R [] n = (refl, refl)
@@ -93,10 +77,8 @@ pub several-found : (R : List Rule) (words : List ℕ) → length words ≢ 1 �
     → Finds (2 ^ 42) targets looks (content-targets R (states-of words)) (unless-one (states-of words) (tries R (states-of words)))
 several-found R words n f = let (a, b) = tried R (states-of words) (λ e. n (length-states words ∙ e)) in rw (a, b) f
 
--- ---- no child
-
-pub no-words : StateWords []
-no-words = record { each = λ k h. absurd (omega arith); few = omega arith }
+pub no-words : StateWords [] × (length {A = ℕ} [] ≢ 1)
+no-words = (record { each = λ k h. absurd (omega arith); few = omega arith }, λ e. absurd (omega arith))
 
 pub nothing-found : (R : List Rule) {targets looks : ℕ} → Finds (2 ^ 42) targets looks (content-targets R (states-of [])) (unless-one (states-of []) (tries R (states-of [])))
     → Finds (2 ^ 42) targets looks (content-targets R []) (tries R [])

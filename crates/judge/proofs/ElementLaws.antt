@@ -1,30 +1,31 @@
 -- An element: the state words of its children as states, and what its content's states make of it. A node, text or element.
 use mathlib.Core.Path.{_≡_, refl, sym}
 use mathlib.Core.Logic.{_≢_}
-use mathlib.Core.Bool.{true, false, and-false}
+use mathlib.Core.Bool.{true, false, _&&_, _||_, and-false}
 use mathlib.Core.List.{List, [], _∷_, flatMap}
 use mathlib.Core.Option.{none, some}
-use Prim.Native.Nat.{ℕ, zero, suc, _+_, _-_, _^_, _≤_, _<_}
+use Prim.Native.Nat.{ℕ, zero, suc, _+_, _-_, _*_, _^_, _≤_, _<_}
 use native.Mathlib.Omega.{arith}
 use lib.Dec.{eqb, eqb·zero-suc}
 use lib.ListN.{length, getD, take, drop}
 use borrow.Author.Tests.{lt-ltb, le-ltb}
 use Rattle.model.specs.Lists.{has, only}
 use Rattle.model.specs.Tree.{symbol-at, size-at}
-use Rattle.model.specs.Sheet.{Rule, one, two, three}
+use Rattle.model.specs.Sheet.{Rule, one, two, three, mask, bit}
 use Rattle.model.specs.Run.{at-tag, text-targets, content-targets, element-targets, of-kind, tries, unless-one, unless-none, element-looks, Item, items, child-words, child-states}
 use Rattle.model.proofs.Spans.{Along}
 use Rattle.model.proofs.Tests.{never}
 use Rattle.bits.specs.Stands.{Stands}
-use Rattle.bits.proofs.SetLaws.{none-stands, stands-none, stands-some}
+use Rattle.bits.proofs.SetLaws.{none-stands, stands-none, stands-some, gathers-none, gathers-more, gathers-all}
 use Rattle.judge.specs.Parts.{StateWords, states-of}
 use Rattle.judge.specs.Index.{rules-of, OneAt, TwoIn}
-use Rattle.judge.specs.Node.{Shaped, Small, words-between, node-targets, node-looks}
+use Rattle.judge.specs.Node.{Shaped, Small, words-between, lone-states, node-targets, node-looks}
 use Rattle.judge.specs.Gathered.{Gathered}
 use Rattle.judge.specs.Found.{Finds}
 use Rattle.judge.specs.declared.node.Children.{Children}
 use Rattle.judge.specs.declared.node.Children.the-variants.{Number}
 use Rattle.judge.proofs.KindLaws.{number-of, along-length}
+use Rattle.judge.proofs.NodeLaws.{words-done, words-more}
 use Rattle.judge.proofs.GatherLaws.{all-gathered}
 
 -- ---- the children's state words
@@ -54,6 +55,11 @@ each-word (zero ∷ ws) s f k h = never (sym f)
 each-word (suc x ∷ ws) (l, s) f zero h = (omega arith, l)
 each-word (suc x ∷ ws) (l, s) f (suc k) h = each-word ws s (rw (eqb·zero-suc x) at f) k (omega arith)
 
+pub small-at : (states : List ℕ) (k : ℕ) → Small (drop k states) → getD states k 0 ≤ 64
+small-at [] k h = omega arith
+small-at (x ∷ states) zero (l, h) = l
+small-at (x ∷ states) (suc k) h = small-at states k h
+
 pub children-words : {tree : List ℕ} (states : List ℕ) → Shaped tree (length states) → (first end : ℕ) → Small (drop first states) → end ≤ length states
     → {children : Children} {n : ℕ} (words : List ℕ) → Gathered children (words-between tree states first end) words → children ≡ Number n → StateWords (take n words)
 children-words {tree} states t first end small room words got all =
@@ -75,6 +81,36 @@ unfolding child-states has
 states-none [] f = never f
 states-none (zero ∷ ws) f = refl
 states-none (suc q ∷ ws) f = rw (states-none ws (rw (eqb·zero-suc q) at f))
+
+-- where an element is more than one node, there is a first child
+pub first-child : {tree : List ℕ} {n i size : ℕ} → Shaped tree n → i < n → size ≡ size-at tree i → size ≢ 1
+    → (i + 1 < i + size) × (i + size ≤ n) × (i + 1 + size-at tree (i + 1) ≤ n) × (4 * (i + 1 + 1) ≤ length tree)
+first-child {i = i} t h e more =
+    let (some-nodes, whole) = t .sizes i h in
+    let (_, within) = t .sizes (i + 1) (omega arith) in
+    (omega arith, omega arith, within, omega (arith, t .long))
+
+-- several children are not one
+pub several-words : {tree : List ℕ} (states : List ℕ) → Shaped tree (length states) → (first end : ℕ) → end ≤ length states → first + size-at tree first < end
+    → length (words-between tree states first end) ≢ 1
+several-words {tree} states t first end room several =
+    let (some-nodes, _) = t .sizes first (omega arith) in
+    rw (words-more states t refl first end (omega arith) room, words-more states t refl (first + size-at tree first) end several room) (λ e. absurd (omega arith))
+
+-- one child: its state word, and the states that it makes
+pub lone-stateless : {word : ℕ} → word ≡ 0 → Finds (2 ^ 42) 0 0 (lone-states word) 0
+lone-stateless e = rw e (record { reached = none-stands; number = refl; few = omega arith })
+
+pub lone-state : (word : ℕ) {r : ℕ} → word ≢ 0 → word ≤ 64 → r ≡ mask 64 (λ j. bit 0 j || (true && eqb j (word - 1))) → Finds (2 ^ 42) r 0 (lone-states word) 0
+unfolding only
+lone-state zero n h m = absurd (n refl)
+lone-state (suc q) n h m = record { reached = gathers-all (gathers-more true q (omega arith) (go m) (gathers-none (q ∷ []))); number = refl; few = omega arith }
+  where
+    e : suc q - 1 ≡ q
+    e = omega arith
+
+    go : {r : ℕ} → r ≡ mask 64 (λ j. bit 0 j || (true && eqb j (suc q - 1))) → r ≡ mask 64 (λ j. bit 0 j || (true && eqb j q))
+    go m = rw e at m
 
 -- ---- the element
 
@@ -118,6 +154,13 @@ module _ (R : List Rule) (a : ℕ) (ws : List ℕ) where
       let (same, _, full) = all-gathered ws words got number in
       rw (states-some ws full) (tagged _ _ (rw same at h))
 
+-- with one child
+lone-element : (R : List Rule) (a w : ℕ) {targets looks : ℕ} → Finds (2 ^ 43) targets looks (flatMap (at-tag a (lone-states w)) R) (0 + unless-none (lone-states w) (of-kind 2 R))
+    → Finds (2 ^ 43) targets looks (element-targets R a (child-states (w ∷ []))) (element-looks R (child-states (w ∷ [])))
+unfolding element-targets element-looks content-targets child-states
+lone-element R a zero f = rw (no-tag a R) at f
+lone-element R a (suc q) f = f
+
 -- ---- a node, by its symbol
 
 module _ (R : List Rule) (tree states : List ℕ) (i : ℕ) where
@@ -141,3 +184,13 @@ module _ (R : List Rule) (tree states : List ℕ) (i : ℕ) where
   leaf-found h e f =
       let none : i + 1 - (i + 1) ≡ 0 = omega arith in
       rw (le-ltb 64 (symbol-at tree i) h, e, none) f
+
+  -- one child is inside
+  pub lone-found : Shaped tree (length states) → symbol-at tree i ≤ 64 → i + 1 < i + size-at tree i → i + size-at tree i ≤ length states
+      → i + size-at tree i ≤ i + 1 + size-at tree (i + 1) → {targets looks : ℕ}
+      → Finds (2 ^ 43) targets looks (flatMap (at-tag (symbol-at tree i) (lone-states (getD states (i + 1) 0))) R) (0 + unless-none (lone-states (getD states (i + 1) 0)) (of-kind 2 R))
+      → Finds (2 ^ 43) targets looks (node-targets R tree states i) (node-looks R tree states i)
+  unfolding node-targets node-looks
+  lone-found t h inside room lone f =
+      rw (le-ltb 64 (symbol-at tree i) h, words-more states t refl (i + 1) (i + size-at tree i) inside room, words-done states t refl (i + 1 + size-at tree (i + 1)) (i + size-at tree i) lone)
+      (lone-element R (symbol-at tree i) (getD states (i + 1) 0) f)

@@ -2,7 +2,7 @@
 use mathlib.Core.Path.{_≡_}
 use mathlib.Core.Bool.{cond}
 use mathlib.Core.List.{List, [], _∷_}
-use Prim.Native.Nat.{ℕ, _+_, _-_, _*_, _≤_, _<_}
+use Prim.Native.Nat.{ℕ, zero, suc, _+_, _-_, _*_, _≤_, _<_}
 use lib.Dec.{ltb}
 use lib.ListN.{length, drop}
 use Rattle.model.specs.Answers.{passes}
@@ -35,6 +35,11 @@ words-between tree states first end = child-words (end - first) 0 (drop first (i
 -- those of the children of node i
 abbrev pub words-inside : (tree states : List ℕ) (i : ℕ) → List ℕ
 words-inside tree states i = words-between tree states (i + 1) (i + size-at tree i)
+
+-- the states that content of one child reaches, by that child's state word: its state, if it has one
+abbrev pub lone-states : ℕ → List ℕ
+lone-states zero = []
+lone-states (suc q) = q ∷ []
 
 -- the states that node i reaches, and the looks that it takes
 unfoldable pub node-targets : List Rule → (tree states : List ℕ) (i : ℕ) → List ℕ

@@ -1,5 +1,6 @@
 // Content: the states that an element's children reach together, by the kind-three rules.
 ghost use mathlib.Core.Path.{_≡_};
+ghost use mathlib.Core.Logic.{_≢_};
 ghost use mathlib.Core.Bool.{Bool, true};
 ghost use mathlib.Core.List.{flatMap};
 ghost use Prim.Native.Nat.{_^_, _≤_, _<_};
@@ -92,32 +93,17 @@ fn try_all(sheet: &[u32], threes: &[u32], words: &[u32], counts: &[u32; 64]) -> 
     Found { targets, looks }
 }
 
-// What content reaches with no child or several: every kind-three rule is tried. Occurrences are counted once for all of them.
-fn several(sheet: &[u32], threes: &[u32], counted: bool, words: &[u32]) -> Found
+// The states that content reaches whose children, none or several, have these state words: every kind-three rule is tried.
+// Occurrences are counted once for all of them.
+pub(crate) fn content(sheet: &[u32], threes: &[u32], counted: bool, words: &[u32]) -> Found
     requires rules { ⌜ Along (ThreeIn (now sheet) counted) (rules-of 3 (rules-in (now sheet))) (now threes) ⌝ }
     requires few { ⌜ length (now threes) ≤ 1024 ⌝ }
-    requires words { ⌜ StateWords (now words) ⌝ }
-    ensures { λ f. ⌜ Finds (2 ^ 42) (f .targets) (f .looks) (flatMap (at-content (states-of (now (words .entry)))) (rules-in (now (sheet .entry)))) (tries (rules-in (now (sheet .entry))) (states-of (now (words .entry)))) ⌝ }
+    requires words { ⌜ StateWords (now words) × (length (now words) ≢ 1) ⌝ }
+    ensures { λ f. ⌜ Finds (2 ^ 42) (f .targets) (f .looks) (content-targets (rules-in (now (sheet .entry))) (states-of (now (words .entry)))) (unless-one (states-of (now (words .entry))) (tries (rules-in (now (sheet .entry))) (states-of (now (words .entry))))) ⌝ }
 {
     let mut counts = [0u32; 64];
     if counted {
         occurrences(words, &mut counts);
     }
     try_all(sheet, threes, words, &counts)
-}
-
-// The states that content reaches whose children have these state words. One child's state is its content's, and no rule is tried.
-pub(crate) fn content(sheet: &[u32], threes: &[u32], counted: bool, words: &[u32]) -> Found
-    requires rules { ⌜ Along (ThreeIn (now sheet) counted) (rules-of 3 (rules-in (now sheet))) (now threes) ⌝ }
-    requires few { ⌜ length (now threes) ≤ 1024 ⌝ }
-    requires words { ⌜ StateWords (now words) ⌝ }
-    ensures { λ f. ⌜ Finds (2 ^ 42) (f .targets) (f .looks) (content-targets (rules-in (now (sheet .entry))) (states-of (now (words .entry)))) (unless-one (states-of (now (words .entry))) (tries (rules-in (now (sheet .entry))) (states-of (now (words .entry))))) ⌝ }
-{
-    if words.len() == 1 {
-        return Found {
-            targets: bits::with_if(true, 0, words[0] - 1),
-            looks: 0,
-        };
-    }
-    several(sheet, threes, counted, words)
 }

@@ -7,7 +7,7 @@ ghost use Rattle.model.specs.Tree.{size-at};
 ghost use Rattle.model.specs.Run.{at-tag, content-targets, element-targets, of-kind, tries, unless-none, element-looks, child-states};
 ghost use Rattle.model.proofs.Spans.{Along};
 ghost use Rattle.judge.specs.Index.{rules-in, rules-of, TwoIn, ThreeIn, Indexed, Chained};
-ghost use Rattle.judge.specs.Node.{Shaped, Small, words-between, node-targets, node-looks};
+ghost use Rattle.judge.specs.Node.{Shaped, Small, words-between, lone-states, node-targets, node-looks};
 ghost use Rattle.judge.specs.Gathered.{Gathered};
 ghost use Rattle.judge.specs.Found.{Finds};
 use crate::content::Found;
@@ -74,7 +74,24 @@ fn tagged(sheet: &[u32], twos: &[u32], heads: &[u32; HEADS], tag: u32, inside: F
     }
 }
 
-// The states that an element reaches: its content stands from node `first` up to node `end`. `words` is lent to gather in.
+// What content of one child reaches, by that child's state word: the child's state, and no rule is tried.
+fn lone(word: u32) -> Found
+    requires { ⌜ word ≤ 64 ⌝ }
+    ensures { λ f. ⌜ Finds (2 ^ 42) (f .targets) (f .looks) (lone-states word) 0 ⌝ }
+{
+    if word == 0 {
+        return Found {
+            targets: 0,
+            looks: 0,
+        };
+    }
+    Found {
+        targets: bits::with_if(true, 0, word - 1),
+        looks: 0,
+    }
+}
+
+// The states that an element with several children reaches: its content stands from node `first` up to node `end`. `words` is lent to gather in.
 fn element(
     sheet: &[u32],
     twos: &[u32],
@@ -92,6 +109,7 @@ fn element(
     requires threes { ⌜ Along (ThreeIn (now sheet) counted) (rules-of 3 (rules-in (now sheet))) (now threes) × (length (now threes) ≤ 1024) ⌝ }
     requires tree { ⌜ Shaped (now tree) (length (now states)) × Small (drop first (now states)) ⌝ }
     requires room { ⌜ (end ≤ length (now states)) × (length (now states) ≤ length (now words)) ⌝ }
+    requires several { ⌜ first + size-at (now tree) first < end ⌝ }
     ensures { λ f. ⌜ Finds (2 ^ 43) (f .targets) (f .looks) (element-targets (rules-in (now (sheet .entry))) tag (child-states (words-between (now (tree .entry)) (now (states .entry)) first end)))
         (element-looks (rules-in (now (sheet .entry))) (child-states (words-between (now (tree .entry)) (now (states .entry)) first end))) ⌝ }
 {
@@ -138,6 +156,11 @@ pub(crate) fn node(
     if size == 1 {
         return tagged(sheet, twos, heads, symbol, nothing);
     }
+    let first = i + 1;
+    let end = i + size;
+    if end <= first + size_at(tree, first) {
+        return tagged(sheet, twos, heads, symbol, lone(states[first]));
+    }
     element(
         sheet,
         twos,
@@ -147,8 +170,8 @@ pub(crate) fn node(
         symbol,
         tree,
         states,
-        i + 1,
-        i + size,
+        first,
+        end,
         words,
     )
 }

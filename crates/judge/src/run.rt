@@ -2,7 +2,7 @@
 ghost use mathlib.Core.Path.{_≡_};
 ghost use mathlib.Core.List.{List};
 ghost use Prim.Native.Nat.{ℕ, _≤_, _<_};
-ghost use lib.ListN.{length, getD, replicate};
+ghost use lib.ListN.{length, getD, set, replicate};
 ghost use Rattle.model.specs.Answers.{said-judgement};
 ghost use Rattle.model.specs.Run.{gist, items, run, last-zero, root-verdict};
 ghost use Rattle.bits.specs.Stands.{Stands};
@@ -46,6 +46,14 @@ fn clear(states: &mut [u32])
         states[i] = NO_STATE;
         i += 1;
     }
+}
+
+// Node i has this state word.
+fn keep(states: &mut [u32], i: usize, word: u32)
+    requires { ⌜ i < length (now states) ⌝ }
+    ensures { λ _. ⌜ now (states .exit) ≡ set (now (states .entry)) i word ⌝ }
+{
+    states[i] = word;
 }
 
 // What a run comes to.
@@ -99,7 +107,7 @@ pub(crate) fn run(
             clear(states);
             return Outcome::Two(i);
         }
-        states[i] = word;
+        keep(states, i, word);
         looks += found.looks;
     }
     Outcome::All(looks)

@@ -1,7 +1,9 @@
--- `content::content` meets its contract: one child apart from none and several.
-use native.Mathlib.Omega.{arith}
+-- `content::content` meets its contract: with a count part the occurrences are counted, and without one they are not looked at.
+use mathlib.Core.Logic.{⊎-elim}
+use mathlib.Core.Path.{sym, _∙_}
 use borrow.Author.Needs.{needs}
-use Rattle.judge.proofs.ContentLaws.{lone-found, several-found}
+use Rattle.judge.proofs.ContentLaws.{several-found}
+use Rattle.model.proofs.Tests.{never}
 use Rattle.judge.proofs.content.content.Statement.{statement}
 use Rattle.judge.proofs.content.content.Tie as tie
 
@@ -9,9 +11,6 @@ pub content-spec : {M : Type 1} → statement M
 content-spec =
     tie.close
     (tie.spec
-    (λ c. search needs)
-    (λ c. omega (arith, c .before .before .before .before .before .pre .1 .1 .each 0 (omega arith)))
-    (λ c κs. search needs)
-    (λ c. lone-found _ _ (c .before .before .before .before .before .before .pre .1 .1) (c .before .before .if1 .taken) (c .with-if .ensures))
-    (λ c κs. search needs)
-    (λ c. several-found _ _ (c .before .if1 .left) (c .several .ensures)))
+    (λ c κs. (c .before .before .before .before .before .pre .1 .1 .0, search needs))
+    (λ c κs. ((_, c .before .before .before .before .before .pre .0, λ e. ⊎-elim (λ w. rw (w .3) (w .2 .ensures)) (λ w. never (sym (w .0 .left) ∙ e)) (c .before .if1 .came)), (c .before .before .before .before .before .pre .1 .0, c .before .before .before .before .before .pre .1 .1 .0)))
+    (λ c. several-found _ _ (c .before .before .before .before .before .before .pre .1 .1 .1) (c .try-all .ensures)))
