@@ -55,6 +55,14 @@ pub(crate) fn turned(set: u64, k: u32) -> u64
     (0xFFFF_FFFF_FFFF_FFFF >> (64 - k)) - set
 }
 
+// Whether the pair `x` is one of a member of `s` and a member of `t`, all below `n`.
+fn holds_pair(s: u64, t: u64, n: u32, x: u32) -> bool
+    requires { ⌜ (1 ≤ n) × (x < 64) ⌝ }
+    ensures { λ r. ⌜ r ≡ bit s (x / n) && bit t (x % n) ⌝ }
+{
+    holds(s, x / n) & holds(t, x % n)
+}
+
 // The pairs of a member of `s`, all below `m`, and a member of `t`, all below `n`, from the highest pair down.
 pub(crate) fn pair_set(m: u32, n: u32, s: u64, t: u64) -> u64
     requires { ⌜ (m * n ≤ 64) × (1 ≤ n) ⌝ }
@@ -64,8 +72,7 @@ pub(crate) fn pair_set(m: u32, n: u32, s: u64, t: u64) -> u64
     let mut x = m * n;
     while 0 < x {
         x -= 1;
-        let both = holds(s, x / n) & holds(t, x % n);
-        set = 2 * set + (both as u64);
+        set = 2 * set + (holds_pair(s, t, n, x) as u64);
     }
     set
 }

@@ -1,8 +1,6 @@
 -- `set::pair_set` meets its contract. The loop's invariant: the set has the bits from x on.
-use mathlib.Core.Path.{ap₂}
 use mathlib.Core.Bool.{Bool, true, _&&_}
-use Prim.Native.Nat.{ℕ, _-_, _*_, _/_, _%_}
-use native.Mathlib.Nat.{div-le-self, mod-le}
+use Prim.Native.Nat.{ℕ, _*_, _/_, _%_}
 use native.Mathlib.Omega.{arith}
 use Rattle.model.specs.Sheet.{bit}
 use Rattle.compose.proofs.SetLaws.{Upper, upper-none, upper-fits, upper-more, upper-all}
@@ -28,13 +26,10 @@ pair-set-spec =
     (λ c. search needs)
     (λ c. upper-none _ _)
     (λ c. search needs)
+    (λ c. omega (arith, upper-fits (c .before .loop .inv) (c .loop-test .taken) (c .before .before .pre .0) true))
+    (λ c κs. (c .before .before .pre .1, omega (arith, c .before .loop .inv .within)))
     (λ c. search needs)
-    (λ c κs. omega (arith, div-le-self (c .before .loop .x - 1) (c .before .before .args .n), c .before .loop .inv .within))
+    (λ c. record { fits = upper-fits (c .before .before .loop .inv) (c .before .loop-test .taken) (c .before .before .before .pre .0) (c .holds-pair .result) })
     (λ c. search needs)
-    (λ c κs. omega (arith, mod-le (c .before .before .loop .x - 1) (c .before .before .before .args .n), c .before .before .loop .inv .within))
-    (λ c. omega (arith, upper-fits (c .before .before .before .loop .inv) (c .before .before .loop-test .taken) (c .before .before .before .before .pre .0) true))
-    (λ c. search needs)
-    (λ c. record { fits = upper-fits (c .before .before .before .loop .inv) (c .before .before .loop-test .taken) (c .before .before .before .before .pre .0) (c .before .holds .result && c .holds2 .result) })
-    (λ c. search needs)
-    (λ c. upper-more (c .before .before .before .loop .inv) (c .before .before .loop-test .taken) (ap₂ _&&_ (c .before .holds .ensures) (c .holds2 .ensures)))
+    (λ c. upper-more (c .before .before .loop .inv) (c .before .loop-test .taken) (c .holds-pair .ensures))
     (λ c. upper-all (c .before .loop .inv) (c .loop-test .left)))
