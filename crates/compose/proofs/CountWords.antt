@@ -52,7 +52,7 @@ lifted-count-words p f ss e = rw (length-map ss f, e)
 
 pub joint-count-words : (n : Sizes) (ss ts : List Step) {k l : ℕ} → length ss ≡ k → length ts ≡ l
     → ((k + l + 1) ∷ []) ++ (flatMap (step-words (of-pairs n)) (map (lift-step S n 0) ss) ++ (flatMap (step-words (of-pairs n)) (map (lift-step T n k) ts)
-    ++ ((4 ∷ []) ++ (((k - 1) ∷ []) ++ ((k + (l - 1)) ∷ [])))))
+    ++ (4 ∷ (k - 1) ∷ (k + (l - 1)) ∷ [])))
     ≡ count-words (of-pairs n) (joint-steps n ss ts)
 unfolding count-words flatMap step-words
 joint-count-words n ss ts {k} {l} ek el =

@@ -226,7 +226,6 @@ pub(crate) fn join_counts(
     let counted = put(out, at, m + n + 1);
     let lower = lift_steps(first, c + 1, m, Side::S, sizes, 0, out, counted);
     let upper = lift_steps(second, d + 1, n, Side::T, sizes, m, out, lower);
-    let closed = put(out, upper, AND);
-    let left = put(out, closed, m - 1);
-    put(out, left, m + (n - 1))
+    let closing = [AND, m - 1, m + (n - 1)];
+    copy(&closing, 0, closing.len(), out, upper)
 }

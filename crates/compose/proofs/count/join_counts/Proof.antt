@@ -21,11 +21,10 @@ join-counts-spec =
     (λ c κs. let f = count-fields (c .before .before .before .before .before .before .before .before .before .before .pre .1 .2) in (c .before .before .before .before .before .before .before .before .before .before .pre .0, omega arith, (_, f .steps, f .number)))
     (λ c. omega (arith, count-fields (c .before .before .before .before .before .before .before .before .before .before .before .before .before .pre .1 .3) .there))
     (λ c κs. let g = count-fields (c .before .before .before .before .before .before .before .before .before .before .before .before .before .before .pre .1 .3) in (c .before .before .before .before .before .before .before .before .before .before .before .before .before .before .pre .0, omega (arith, count-fields (c .before .before .before .before .before .before .before .before .before .before .before .before .before .before .pre .1 .2)), (_, g .steps, g .number)))
-    (λ c κs. search needs)
-    (λ c. omega (arith, count-fields (c .before .before .before .before .before .before .before .before .before .before .before .before .before .before .before .before .before .before .before .before .before .before .pre .1 .2)))
-    (λ c κs. search needs)
-    (λ c. omega (arith, count-fields (c .before .before .before .before .before .before .before .before .before .before .before .before .before .before .before .before .before .before .before .before .before .before .before .before .before .before .pre .1 .3)))
-    (λ c. omega (arith, count-fields (c .before .before .before .before .before .before .before .before .before .before .before .before .before .before .before .before .before .before .before .before .before .before .before .before .before .before .pre .1 .2), count-fields (c .before .before .before .before .before .before .before .before .before .before .before .before .before .before .before .before .before .before .before .before .before .before .before .before .before .before .pre .1 .3)))
+    (λ c. omega (arith, count-fields (c .before .before .before .before .before .before .before .before .before .before .before .before .before .before .before .before .before .pre .1 .2)))
+    (λ c. omega (arith, count-fields (c .before .before .before .before .before .before .before .before .before .before .before .before .before .before .before .before .before .pre .1 .3)))
+    (λ c. omega (arith, count-fields (c .before .before .before .before .before .before .before .before .before .before .before .before .before .before .before .before .before .pre .1 .2), count-fields (c .before .before .before .before .before .before .before .before .before .before .before .before .before .before .before .before .before .pre .1 .3)))
+    (λ c. search needs)
     (λ c κs. search needs)
     (λ c. search needs)
     (λ c.
@@ -33,5 +32,4 @@ join-counts-spec =
     let f = count-fields h in
     let g = count-fields k in
     as-words (joint-count-words _ ss ts (f .number) (g .number))
-    (then (c .before .before .before .before .before .before .before .before .before .before .before .before .before .before .before .before .before .before .before .before .before .before .put .ensures) (then (c .before .before .before .before .before .before .before .before .before .before .before .before .before .before .before .before .before .before .lift-steps .ensures ss (f .steps) (f .number)) (then (c .before .before .before .before .before .before .before .before .before .before .before .before .before .before .lift-steps2 .ensures ts (g .steps) (g .number))
-    (then (c .before .before .before .before .before .before .before .before .before .before .put2 .ensures) (then (c .before .before .before .before .before .before .put3 .ensures) (c .before .before .put4 .ensures))))))))
+    (then (c .before .before .before .before .before .before .before .before .before .before .before .before .before .before .before .put .ensures) (then (c .before .before .before .before .before .before .before .before .before .before .before .lift-steps .ensures ss (f .steps) (f .number)) (then (c .before .before .before .before .before .before .before .lift-steps2 .ensures ts (g .steps) (g .number)) (c .before .before .copy .ensures))))))
