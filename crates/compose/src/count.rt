@@ -11,14 +11,14 @@ ghost use Rattle.compose.specs.Page.{Writes};
 ghost use Rattle.compose.specs.Sides.{side-of, sizes-of, FewPairs};
 ghost use Rattle.compose.specs.Parts.{SumAt, SumOf, StepAt, StepsAt, CountAt};
 ghost use Rattle.compose.specs.Sums.{lifted-times, joint-steps};
+use bits::has;
+use bits::of_words;
 use crate::page::copy;
 use crate::page::put;
 use crate::set::count;
-use crate::set::holds;
 use crate::set::pair_set;
 use crate::set::put_set;
 use crate::set::rank;
-use crate::set::set_of;
 use crate::side::Side;
 use crate::side::Sizes;
 use crate::side::half;
@@ -45,7 +45,7 @@ fn sum_head(words: &[u32], a: usize) -> SumHead
     requires { ⌜ ((p : ℕ) × (cs : List Coefficient) × SumAt p (now words) a cs) ⌝ }
     ensures { λ r. ⌜ ((p : ℕ) (cs : List Coefficient) → SumAt p (now (words .entry)) a cs → SumOf p (now (words .entry)) a cs r) ⌝ }
 {
-    let marks = set_of(words[a], words[a + 1]);
+    let marks = of_words(words[a], words[a + 1]);
     let from = a + 2;
     SumHead {
         marks,
@@ -82,7 +82,7 @@ fn lift_times(
     let mut x = 0;
     while x < pairs {
         let q = half(side, sizes.t, x);
-        if holds(sum.marks, q) {
+        if has(sum.marks, q) {
             let i = sum.from + rank(sum.marks, q);
             next = put(out, next, words[i]);
             x += 1;

@@ -11,10 +11,10 @@ ghost use Rattle.compose.specs.Page.{Writes};
 ghost use Rattle.compose.specs.Sides.{side-of, sizes-of, FewPairs};
 ghost use Rattle.compose.specs.Arcs.{lifted-arc, paired-arc};
 ghost use Rattle.compose.specs.Parts.{OrderAt, HeadOf};
+use bits::of_words;
 use crate::page::put;
 use crate::set::pair_set;
 use crate::set::put_set;
-use crate::set::set_of;
 use crate::side::Side;
 use crate::side::Sizes;
 use crate::side::beside;
@@ -174,7 +174,7 @@ pub(crate) fn order_head(words: &[u32], a: usize) -> OrderHead
     let from = a + 4;
     OrderHead {
         positions: words[a],
-        accepting: set_of(words[a + 1], words[a + 2]),
+        accepting: of_words(words[a + 1], words[a + 2]),
         arcs,
         from,
         to: from + (arcs as usize),

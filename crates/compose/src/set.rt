@@ -6,30 +6,17 @@ ghost use Prim.Native.Nat.{_+_, _*_, _/_, _%_, _^_, _≤_, _<_};
 ghost use lib.Count.{ones};
 ghost use Rattle.model.specs.Sheet.{W, mask, bit};
 ghost use Rattle.compose.specs.Page.{Writes};
+use bits::has;
 use crate::page::put;
 
 // 2 to the power 32
 const WORD: u64 = 0x1_0000_0000;
-
-// The set of two words.
-pub(crate) fn set_of(low: u32, high: u32) -> u64
-    ensures { λ r. ⌜ r ≡ low + high * W ⌝ }
-{
-    (low as u64) + (high as u64) * WORD
-}
 
 pub(crate) fn put_set(out: &mut [u32], at: usize, set: u64) -> usize
     ensures { λ r. ⌜ Writes (now (out .entry)) at (set % W ∷ set / W ∷ []) (now (out .exit)) r ⌝ }
 {
     let next = put(out, at, (set % WORD) as u32);
     put(out, next, (set / WORD) as u32)
-}
-
-pub(crate) fn holds(set: u64, i: u32) -> bool
-    requires { ⌜ i < 64 ⌝ }
-    ensures { λ r. ⌜ r ≡ bit set i ⌝ }
-{
-    (set >> i) % 2 == 1
 }
 
 // How many members a set has.
@@ -57,10 +44,10 @@ pub(crate) fn turned(set: u64, k: u32) -> u64
 
 // Whether the pair `x` is one of a member of `s` and a member of `t`, all below `n`.
 fn holds_pair(s: u64, t: u64, n: u32, x: u32) -> bool
-    requires { ⌜ (1 ≤ n) × (x < 64) ⌝ }
+    requires { ⌜ 1 ≤ n ⌝ }
     ensures { λ r. ⌜ r ≡ bit s (x / n) && bit t (x % n) ⌝ }
 {
-    holds(s, x / n) & holds(t, x % n)
+    has(s, x / n) & has(t, x % n)
 }
 
 // The pairs of a member of `s`, all below `m`, and a member of `t`, all below `n`, from the highest pair down.

@@ -9,13 +9,13 @@ ghost use Rattle.compose.specs.Page.{Writes};
 ghost use Rattle.compose.specs.Sides.{FewPairs};
 ghost use Rattle.compose.specs.Parts.{Passed};
 ghost use Rattle.compose.specs.Joins.{head-words, Joins};
+use bits::of_words;
 use crate::joint::put_rules;
 use crate::page::copy;
 use crate::page::put;
 use crate::rule::KEYS;
 use crate::set::pair_set;
 use crate::set::put_set;
-use crate::set::set_of;
 use crate::set::turned;
 use crate::side::Sizes;
 
@@ -36,7 +36,7 @@ fn final_states(sheet: &[u32]) -> u64
     requires { ⌜ ((s : Sheet) × Passed (now sheet) s) ⌝ }
     ensures { λ r. ⌜ ((s : Sheet) → Passed (now (sheet .entry)) s → r ≡ mask (s .states) (has (s .final))) ⌝ }
 {
-    set_of(sheet[FINAL], sheet[FINAL + 1])
+    of_words(sheet[FINAL], sheet[FINAL + 1])
 }
 
 // Writes the words of a sheet with every final bit below its number of states turned.

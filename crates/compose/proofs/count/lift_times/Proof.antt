@@ -31,7 +31,7 @@ below c =
 room : (c : tie.After-rank Inv-loop μ-loop) → let a = c .before .before .before .before .before .before .before .before .before .args in a .sum .from + c .rank .result < length (a .words .now)
 room c =
     let (few, (cs, i, h, k)) = c .before .before .before .before .before .before .before .before .before .pre in
-    rw (c .rank .ensures) (times-room k (h .ranges) (c .before .before .before .half .result) (below (c .before .before .before)) (sym (c .before .before .holds .ensures) ∙ c .before .if1 .taken))
+    rw (c .rank .ensures) (times-room k (h .ranges) (c .before .before .before .half .result) (below (c .before .before .before)) (sym (c .before .before .has .ensures) ∙ c .before .if1 .taken))
 
 pub lift-times-spec : {M : Type 1} → statement M
 lift-times-spec =
@@ -42,7 +42,7 @@ lift-times-spec =
     (λ c. omega (arith, c .before .before .before .pre .0 .few))
     (λ c. begun (times-like _ _ _ _ _ (from-start refl)))
     (λ c κs. c .before .before .before .before .before .pre .0 .some-T)
-    (λ c κs. omega (arith, below c, few-side (c .before .before .before .before .before .before .pre .0) (side-of (c .before .before .before .before .before .before .args .side))))
+    (λ c κs. search needs)
     (λ c κs. omega (arith, below (c .before .before), few-side (c .before .before .before .before .before .before .before .before .pre .0) (side-of (c .before .before .before .before .before .before .before .before .args .side))))
     (λ c. omega (arith, room (c .before)))
     (λ c. omega (arith, room (c .before .before)))
@@ -50,9 +50,9 @@ lift-times-spec =
     (λ c κs. search needs)
     (λ c. search needs)
     (λ c. search needs)
-    (λ c. more (c .before .before .before .before .before .before .before .before .before .before .before .loop .inv) (times-next _ _ _ _ _ (from-next _ _ (c .before .before .before .before .before .before .before .before .before .before .loop-test .taken)) (c .before .before .before .before .before .before .before .before .before .half .ensures) (sym (c .before .before .before .before .before .before .before .before .holds .ensures) ∙ c .before .before .before .before .before .before .before .if1 .taken) (c .before .before .before .before .before .before .rank .ensures)) (c .before .before .put .ensures))
+    (λ c. more (c .before .before .before .before .before .before .before .before .before .before .before .loop .inv) (times-next _ _ _ _ _ (from-next _ _ (c .before .before .before .before .before .before .before .before .before .before .loop-test .taken)) (c .before .before .before .before .before .before .before .before .before .half .ensures) (sym (c .before .before .before .before .before .before .before .before .has .ensures) ∙ c .before .before .before .before .before .before .before .if1 .taken) (c .before .before .before .before .before .before .rank .ensures)) (c .before .before .put .ensures))
     (λ c. search needs)
     (λ c. search needs)
-    (λ c. more (c .before .before .before .before .loop .inv) (times-skip _ _ _ _ _ (from-next _ _ (c .before .before .before .loop-test .taken)) (c .before .before .half .ensures) (sym (c .before .holds .ensures) ∙ c .if1 .left)) (nothing _ _))
+    (λ c. more (c .before .before .before .before .loop .inv) (times-skip _ _ _ _ _ (from-next _ _ (c .before .before .before .loop-test .taken)) (c .before .before .half .ensures) (sym (c .before .has .ensures) ∙ c .if1 .left)) (nothing _ _))
     (λ c. kept (c .before .loop .inv))
     (λ c. done (c .before .loop .inv) (times-none _ _ _ _ _ (from-none _ _ (c .loop-test .left)))))

@@ -17,5 +17,5 @@ sum-head-spec =
     (λ c κs. search needs)
     (λ c. omega (arith, sum-room (c .before .before .before .before .pre .2)))
     (λ c κs. search needs)
-    (λ c. omega (arith, sum-of (c .before .before .before .before .before .pre .2) (c .before .set-of .ensures) (c .count .ensures) .room))
-    (λ c. λ p cs h. sum-of h (c .before .set-of .ensures) (c .count .ensures)))
+    (λ c. omega (arith, sum-of (c .before .before .before .before .before .pre .2) (c .before .of-words .ensures) (c .count .ensures) .room))
+    (λ c. λ p cs h. sum-of h (c .before .of-words .ensures) (c .count .ensures)))

@@ -24,4 +24,4 @@ order-head-spec =
     (λ c κs. omega (arith, order-room (c .before .before .before .before .before .pre .2)))
     (λ c. omega (arith, order-room (c .before .before .before .before .before .before .pre .2)))
     (λ c. omega (arith, order-room (c .before .before .before .before .before .before .pre .2)))
-    (λ c. λ p o h. head-of h _ _ refl (c .set-of .ensures)))
+    (λ c. λ p o h. head-of h _ _ refl (c .of-words .ensures)))

@@ -27,7 +27,7 @@ pair-set-spec =
     (λ c. upper-none _ _)
     (λ c. search needs)
     (λ c. omega (arith, upper-fits (c .before .loop .inv) (c .loop-test .taken) (c .before .before .pre .0) true))
-    (λ c κs. (c .before .before .pre .1, omega (arith, c .before .loop .inv .within)))
+    (λ c κs. c .before .before .pre .1)
     (λ c. search needs)
     (λ c. record { fits = upper-fits (c .before .before .loop .inv) (c .before .loop-test .taken) (c .before .before .before .pre .0) (c .holds-pair .result) })
     (λ c. search needs)

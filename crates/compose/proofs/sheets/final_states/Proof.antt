@@ -15,4 +15,4 @@ final-states-spec =
     (λ c. search needs)
     (λ c. omega (arith, sheet-long (c .before .before .before .pre .1)))
     (λ c κs. search needs)
-    (λ c. λ s h. c .set-of .ensures ∙ final-words h))
+    (λ c. λ s h. c .of-words .ensures ∙ final-words h))
