@@ -11,8 +11,6 @@ ghost use Rattle.compose.specs.Page.{Writes};
 ghost use Rattle.compose.specs.Sides.{side-of, sizes-of, FewPairs};
 ghost use Rattle.compose.specs.Parts.{SumAt, SumOf, StepAt, StepsAt, CountAt};
 ghost use Rattle.compose.specs.Sums.{lifted-times, joint-steps};
-use bits::has;
-use bits::of_words;
 use crate::page::copy;
 use crate::page::put;
 use crate::set::count;
@@ -22,6 +20,8 @@ use crate::set::rank;
 use crate::side::Side;
 use crate::side::Sizes;
 use crate::side::half;
+use bits::has;
+use bits::of_words;
 
 // The kinds of steps. A sum is followed by one word in kind 1 and by two in kind 2; kinds 3, 4 and 5 are step numbers.
 const REMAINDER: u32 = 2;

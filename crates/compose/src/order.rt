@@ -4,14 +4,13 @@ ghost use Prim.Native.Nat.{ℕ, _+_, _*_, _^_, _≤_};
 ghost use lib.ListN.{length};
 ghost use lib.Seq.{slice};
 ghost use Rattle.model.specs.Lists.{numbers, row, grid};
-ghost use Rattle.model.specs.Sheet.{Order, arc-of, order-words};
+ghost use Rattle.model.specs.Sheet.{Order, order-words};
 ghost use Rattle.model.specs.Compose.{of-other, lift-order, pair-order};
 ghost use Rattle.model.proofs.Pairs.{of-side};
 ghost use Rattle.compose.specs.Page.{Writes};
 ghost use Rattle.compose.specs.Sides.{side-of, sizes-of, FewPairs};
 ghost use Rattle.compose.specs.Arcs.{lifted-arc, paired-arc};
 ghost use Rattle.compose.specs.Parts.{OrderAt, HeadOf};
-use bits::of_words;
 use crate::page::put;
 use crate::set::pair_set;
 use crate::set::put_set;
@@ -20,29 +19,13 @@ use crate::side::Sizes;
 use crate::side::beside;
 use crate::side::of_other;
 use crate::side::pair;
+use bits::arc_of;
+use bits::of_words;
 
 // The fields of an arc word are a byte each: from the top the position it leaves, the state it reads, the position it enters.
 const BYTE: u32 = 0x100;
 
 const TWO_BYTES: u32 = 0x1_0000;
-
-fn leaves(w: u32) -> u32
-    ensures { λ r. ⌜ (r ≡ arc-of w .leaves) × (r ≤ 255) ⌝ }
-{
-    w / TWO_BYTES % BYTE
-}
-
-fn reads(w: u32) -> u32
-    ensures { λ r. ⌜ (r ≡ arc-of w .reads) × (r ≤ 255) ⌝ }
-{
-    w / BYTE % BYTE
-}
-
-fn enters(w: u32) -> u32
-    ensures { λ r. ⌜ (r ≡ arc-of w .enters) × (r ≤ 255) ⌝ }
-{
-    w % BYTE
-}
 
 fn arc_word(leaves: u32, reads: u32, enters: u32) -> u32
     requires { ⌜ (leaves ≤ 16575) × (reads ≤ 16575) × (enters ≤ 16575) ⌝ }
@@ -56,7 +39,9 @@ fn lift_arc(w: u32, side: Side, sizes: Sizes, other: u32) -> u32
     requires { ⌜ FewPairs (sizes-of sizes) × (other ≤ 255) ⌝ }
     ensures { λ r. ⌜ r ≡ lifted-arc (side-of side) (sizes-of sizes) w other ⌝ }
 {
-    arc_word(leaves(w), beside(side, sizes.t, reads(w), other), enters(w))
+    let arc = arc_of(w);
+    let reads = beside(side, sizes.t, arc.reads, other);
+    arc_word(arc.leaves, reads, arc.enters)
 }
 
 // Writes an arc once for each state of the other sheet.
@@ -101,10 +86,12 @@ fn pair_arc(v: u32, w: u32, m: u32, p: u32) -> u32
     requires { ⌜ (m ≤ 64) × (p ≤ 64) ⌝ }
     ensures { λ r. ⌜ r ≡ paired-arc m p v w ⌝ }
 {
+    let a = arc_of(v);
+    let b = arc_of(w);
     arc_word(
-        pair(m, leaves(v), leaves(w)),
-        pair(p, reads(v), reads(w)),
-        pair(m, enters(v), enters(w)),
+        pair(m, a.leaves, b.leaves),
+        pair(p, a.reads, b.reads),
+        pair(m, a.enters, b.enters),
     )
 }
 

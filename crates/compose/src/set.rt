@@ -6,8 +6,8 @@ ghost use Prim.Native.Nat.{_+_, _*_, _/_, _%_, _^_, _≤_, _<_};
 ghost use lib.Count.{ones};
 ghost use Rattle.model.specs.Sheet.{W, mask, bit};
 ghost use Rattle.compose.specs.Page.{Writes};
-use bits::has;
 use crate::page::put;
+use bits::has;
 
 // 2 to the power 32
 const WORD: u64 = 0x1_0000_0000;

@@ -9,7 +9,6 @@ ghost use Rattle.compose.specs.Page.{Writes};
 ghost use Rattle.compose.specs.Sides.{FewPairs};
 ghost use Rattle.compose.specs.Parts.{Passed};
 ghost use Rattle.compose.specs.Joins.{head-words, Joins};
-use bits::of_words;
 use crate::joint::put_rules;
 use crate::page::copy;
 use crate::page::put;
@@ -18,6 +17,7 @@ use crate::set::pair_set;
 use crate::set::put_set;
 use crate::set::turned;
 use crate::side::Sizes;
+use bits::of_words;
 
 // the first word of every sheet
 const EDITION: u32 = 1;

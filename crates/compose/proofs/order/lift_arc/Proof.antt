@@ -12,8 +12,6 @@ lift-arc-spec =
     tie.close
     (tie.spec
     (λ c κs. search needs)
+    (λ c κs. omega (arith, few-T (c .before .pre .0)))
     (λ c κs. search needs)
-    (λ c κs. omega (arith, few-T (c .before .before .pre .0)))
-    (λ c κs. search needs)
-    (λ c κs. search needs)
-    (λ c. rw (c .arc-word .ensures, c .before .before .before .before .leaves .ensures .0, c .before .before .beside .ensures .0, c .before .before .before .reads .ensures .0, c .before .enters .ensures .0)))
+    (λ c. let (leaves, reads, enters) = c .before .before .arc-of .ensures in rw (c .arc-word .ensures, c .before .beside .ensures .0, leaves, reads, enters)))

@@ -15,20 +15,7 @@ pair-arc-spec =
     (λ c κs. search needs)
     (λ c κs. search needs)
     (λ c κs. search needs)
-    (λ c κs. search needs)
-    (λ c κs. search needs)
-    (λ c κs. search needs)
-    (λ c κs. search needs)
     (λ c.
-    rw (
-      c .arc-word .ensures,
-      c .before .before .before .before .before .before .before .pair .ensures .0,
-      c .before .before .before .before .pair2 .ensures .0,
-      c .before .pair3 .ensures .0,
-      c .before .before .before .before .before .before .before .before .before .leaves .ensures .0,
-      c .before .before .before .before .before .before .before .before .leaves2 .ensures .0,
-      c .before .before .before .before .before .before .reads .ensures .0,
-      c .before .before .before .before .before .reads2 .ensures .0,
-      c .before .before .before .enters .ensures .0,
-      c .before .before .enters2 .ensures .0,
-    )))
+    let (leaves, reads, enters) = c .before .before .before .before .before .arc-of .ensures in
+    let (leaves2, reads2, enters2) = c .before .before .before .before .arc-of2 .ensures in
+    rw (c .arc-word .ensures, c .before .before .before .pair .ensures .0, c .before .before .pair2 .ensures .0, c .before .pair3 .ensures .0, leaves, leaves2, reads, reads2, enters, enters2)))
