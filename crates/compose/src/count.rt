@@ -20,8 +20,6 @@ use crate::set::rank;
 use crate::side::Side;
 use crate::side::Sizes;
 use crate::side::half;
-use bits::has;
-use bits::of_words;
 
 // The kinds of steps. A sum is followed by one word in kind 1 and by two in kind 2; kinds 3, 4 and 5 are step numbers.
 const REMAINDER: u32 = 2;
@@ -45,7 +43,7 @@ fn sum_head(words: &[u32], a: usize) -> SumHead
     requires { ⌜ ((p : ℕ) × (cs : List Coefficient) × SumAt p (now words) a cs) ⌝ }
     ensures { λ r. ⌜ ((p : ℕ) (cs : List Coefficient) → SumAt p (now (words .entry)) a cs → SumOf p (now (words .entry)) a cs r) ⌝ }
 {
-    let marks = of_words(words[a], words[a + 1]);
+    let marks = bits::of_words(words[a], words[a + 1]);
     let from = a + 2;
     SumHead {
         marks,
@@ -82,7 +80,7 @@ fn lift_times(
     let mut x = 0;
     while x < pairs {
         let q = half(side, sizes.t, x);
-        if has(sum.marks, q) {
+        if bits::has(sum.marks, q) {
             let i = sum.from + rank(sum.marks, q);
             next = put(out, next, words[i]);
             x += 1;

@@ -19,8 +19,6 @@ use crate::side::Sizes;
 use crate::side::beside;
 use crate::side::of_other;
 use crate::side::pair;
-use bits::arc_of;
-use bits::of_words;
 
 // The fields of an arc word are a byte each: from the top the position it leaves, the state it reads, the position it enters.
 const BYTE: u32 = 0x100;
@@ -39,7 +37,7 @@ fn lift_arc(w: u32, side: Side, sizes: Sizes, other: u32) -> u32
     requires { ⌜ FewPairs (sizes-of sizes) × (other ≤ 255) ⌝ }
     ensures { λ r. ⌜ r ≡ lifted-arc (side-of side) (sizes-of sizes) w other ⌝ }
 {
-    let arc = arc_of(w);
+    let arc = bits::arc_of(w);
     let reads = beside(side, sizes.t, arc.reads, other);
     arc_word(arc.leaves, reads, arc.enters)
 }
@@ -86,8 +84,8 @@ fn pair_arc(v: u32, w: u32, m: u32, p: u32) -> u32
     requires { ⌜ (m ≤ 64) × (p ≤ 64) ⌝ }
     ensures { λ r. ⌜ r ≡ paired-arc m p v w ⌝ }
 {
-    let a = arc_of(v);
-    let b = arc_of(w);
+    let a = bits::arc_of(v);
+    let b = bits::arc_of(w);
     arc_word(
         pair(m, a.leaves, b.leaves),
         pair(p, a.reads, b.reads),
@@ -161,7 +159,7 @@ pub(crate) fn order_head(words: &[u32], a: usize) -> OrderHead
     let from = a + 4;
     OrderHead {
         positions: words[a],
-        accepting: of_words(words[a + 1], words[a + 2]),
+        accepting: bits::of_words(words[a + 1], words[a + 2]),
         arcs,
         from,
         to: from + (arcs as usize),

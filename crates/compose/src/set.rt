@@ -7,7 +7,6 @@ ghost use lib.Count.{ones};
 ghost use Rattle.model.specs.Sheet.{W, mask, bit};
 ghost use Rattle.compose.specs.Page.{Writes};
 use crate::page::put;
-use bits::has;
 
 // 2 to the power 32
 const WORD: u64 = 0x1_0000_0000;
@@ -47,7 +46,7 @@ fn holds_pair(s: u64, t: u64, n: u32, x: u32) -> bool
     requires { ⌜ 1 ≤ n ⌝ }
     ensures { λ r. ⌜ r ≡ bit s (x / n) && bit t (x % n) ⌝ }
 {
-    has(s, x / n) & has(t, x % n)
+    bits::has(s, x / n) & bits::has(t, x % n)
 }
 
 // The pairs of a member of `s`, all below `m`, and a member of `t`, all below `n`, from the highest pair down.

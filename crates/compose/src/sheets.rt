@@ -17,7 +17,6 @@ use crate::set::pair_set;
 use crate::set::put_set;
 use crate::set::turned;
 use crate::side::Sizes;
-use bits::of_words;
 
 // the first word of every sheet
 const EDITION: u32 = 1;
@@ -36,7 +35,7 @@ fn final_states(sheet: &[u32]) -> u64
     requires { ⌜ ((s : Sheet) × Passed (now sheet) s) ⌝ }
     ensures { λ r. ⌜ ((s : Sheet) → Passed (now (sheet .entry)) s → r ≡ mask (s .states) (has (s .final))) ⌝ }
 {
-    of_words(sheet[FINAL], sheet[FINAL + 1])
+    bits::of_words(sheet[FINAL], sheet[FINAL + 1])
 }
 
 // Writes the words of a sheet with every final bit below its number of states turned.
