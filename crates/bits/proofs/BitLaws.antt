@@ -93,7 +93,7 @@ or-words low high h k = ap (λ (x : ℕ). bitOr x low) (shl-exact 32 32 64 k (li
 
 -- ---- masks
 
-mask-like : (k : ℕ) (f g : ℕ → Bool) → ((i : ℕ) → i < k → f i ≡ g i) → mask k f ≡ mask k g
+pub mask-like : (k : ℕ) (f g : ℕ → Bool) → ((i : ℕ) → i < k → f i ≡ g i) → mask k f ≡ mask k g
 unfolding mask
 mask-like zero f g e = refl
 mask-like (suc k) f g e = rw (e 0 (omega arith), mask-like k (λ i. f (suc i)) (λ i. g (suc i)) (λ i h. e (suc i) (omega arith)))

@@ -15,15 +15,11 @@ use Rattle.model.proofs.Tests.{Told, yea, nay, told, and-yes}
 use Rattle.model.proofs.ListLaws.{∈-has, has-∈, has-no}
 use Rattle.model.proofs.Pairs.{either, on-both, of-pairs, ∈-pairs}
 use Rattle.model.proofs.SetWords.{bit-mask, mask-<}
+use Rattle.bits.proofs.BitLaws.{mask-like}
 use Rattle.compose.specs.Sides.{FewPairs}
 use Rattle.compose.proofs.NumberLaws.{few-S, few-T, half-below}
 
 -- ---- masks
-
-pub mask-like : (k : ℕ) (f g : ℕ → Bool) → ((i : ℕ) → i < k → f i ≡ g i) → mask k f ≡ mask k g
-unfolding mask
-mask-like zero f g h = refl
-mask-like (suc k) f g h = rw (h 0 (omega arith), mask-like k (λ i. f (suc i)) (λ i. g (suc i)) (λ i l. h (suc i) (omega arith)))
 
 -- the bits from x on
 pub record Upper (k : ℕ) (f : ℕ → Bool) (x set : ℕ) : Type 0 where

@@ -12,8 +12,9 @@ use Rattle.model.specs.Compose.{swapped}
 use Rattle.model.proofs.Tests.{Told, yea, nay, told}
 use Rattle.model.proofs.ListLaws.{∈-has, has-no, ∈-filter}
 use Rattle.model.proofs.SetWords.{mask-<}
+use Rattle.bits.proofs.BitLaws.{mask-like}
 use Rattle.compose.specs.Parts.{Passed}
-use Rattle.compose.proofs.SetLaws.{mask-like, turned-is}
+use Rattle.compose.proofs.SetLaws.{turned-is}
 
 -- of the numbers below k that pass a test, one is a member if it passes
 has-filter : (f : ℕ → Bool) (k i : ℕ) → i < k → has (flatMap (λ i. only (f i) i) (numbers k)) i ≡ f i

@@ -20,11 +20,11 @@ use Rattle.model.proofs.ListLaws.{∈-has, has-∈, has-no, ∈-map, map-∈, m
 use Rattle.model.proofs.Pairs.{of-side, of-pairs}
 use Rattle.model.proofs.SetWords.{bit-mask}
 use Rattle.model.proofs.Spans.{word-there, word-here, span-right}
+use Rattle.bits.proofs.BitLaws.{mask-like}
 use Rattle.compose.specs.declared.count.SumHead.{SumHead}
 use Rattle.compose.specs.Parts.{SumAt, SumOf}
 use Rattle.compose.specs.Sums.{time-of, lifted-times}
 use Rattle.compose.proofs.NumberLaws.{half-below}
-use Rattle.compose.proofs.SetLaws.{mask-like}
 use Rattle.compose.proofs.OrderWords.{words-from, words-end}
 
 -- ---- how many members of a set lie below q
