@@ -18,7 +18,8 @@ use Rattle.model.specs.Bytes.{class-number, is, class-of, letter-byte, n
 use Rattle.model.specs.Names.{prepend, lines, number-from, tag-of, name-of, good-line, lines-checked, names-of}
 use Rattle.model.specs.Text.{moves, move, place-number, move-number, does, name-at, trimmed, text-at, behind, text-node, tag-node, outside, closed, moved, state-at, refusal-2, refusal-3, refusal-4, innermost, refusal-5, start-tag, refusal-6, refusal-7, number-at, first-refused, form-of}
 use Rattle.model.specs.Calls.{read, read-tree, verdict-of, swap, swap-out, in-second, joined, join, join-said, join-out, formcheck}
-use Rattle.model.proofs.Examples.{bytes, All, that-is-all, _and_, all-∈}
+use Rattle.model.specs.Line.{bytes, digits, decimal, field, line-of, formcheck-line}
+use Rattle.model.proofs.Examples.{All, that-is-all, _and_, all-∈}
 
 -- ---- the sheets and the names
 
@@ -60,10 +61,11 @@ file = flatMap (λ w. (w % 256) ∷ (w / 256 % 256) ∷ (w / 65536 % 256) ∷ (w
 
 -- ---- the table
 
--- A form that formcheck is run on; a tree that is read; a sheet that is swapped; two sheets that are joined; a form that
+-- A form that formcheck is run on; its line; a tree that is read; a sheet that is swapped; two sheets that are joined; a form that
 -- formcheck is run on with their joint sheet, and the limit of its looks; a division.
 pub data Case : Type 0 where
   checks : (sheet : List ℕ) (form : String) → Said → Case
+  prints : (sheet : List ℕ) (form line : String) → Case
   reads-as : (form : String) (tree : List ℕ) → Case
   swaps-to : (sheet swapped : List ℕ) → Case
   joins-to : (first second joint : List ℕ) → Case
@@ -74,6 +76,7 @@ pub data Case : Type 0 where
 
 pub Holds : Case → Type 0
 Holds (checks sheet form said) = formcheck list (file sheet) (bytes form) ≡ said
+Holds (prints sheet form line) = formcheck-line list (file sheet) (bytes form) ≡ bytes line
 Holds (reads-as form tree) = read-tree list (bytes form) (replicate (length tree) 0) ≡ tree
 Holds (swaps-to sheet swapped) = swap-out sheet (replicate (length swapped) 0) ≡ swapped
 Holds (joins-to first second joint) = join-out first second (replicate (length joint) 0) ≡ joint
@@ -85,13 +88,16 @@ Holds (leaves z m r) = remainder-of z m ≡ r
 pub table : List Case
 table =
     checks S "<site><oven/><ct/><units/></site>" (accepted 4 23)
+    ∷ prints S "<site><oven/><ct/><units/></site>" "accepted 4 23\n"
     ∷ checks S "<site><oven/><units/></site>" (stuck 0 13)
+    ∷ prints S "<site><oven/><units/></site>" "stuck 0 13\n"
     ∷ checks S "<units> kWh </units>" (refused 3 5)
     ∷ reads-as "<units> kWh </units>" (4 ∷ 2 ∷ 0 ∷ 0 ∷ 66 ∷ 1 ∷ 8 ∷ 3 ∷ [])
     ∷ checks S "<units/>" (refused 3 5)
     ∷ checks S "<units> </units>" (refused 3 5)
     ∷ checks S "<site><oven/></site>" (stuck 0 9)
     ∷ checks S-plus "<units> kWh </units>" (refusal 23 1)
+    ∷ prints S-plus "<units> kWh </units>" "error 23 1\n"
     ∷ swaps-to S S-swapped
     ∷ checks S-swapped "<units> kWh </units>" (accepted 3 5)
     ∷ joins-to S T S
@@ -105,10 +111,10 @@ table =
 -- ---- the theorem
 
 computed : All Holds table
-unfolding Holds table list rules-of-S S S-plus S-swapped T bare-sheet file bytes flatMap has every only from row grid _>>=_ _>>_ require room-for answer-of buffer-after size words is-text nodes text-symbol tag-symbol look children-by children tree-of without-starts mask set-words signed-word arc-word order-words sum-words step-words count-words rule-words sheet-words small then word one-of all bit members set-below arc-ok arc order signed coefficient sum at-most-step remainder-step one-earlier two-earlier step steps target text-rule tag-rule order-rule count-rule order-count-rule rule sheet ended sheet-of file-words entered next-set last-set meets fits-order reads-from reads occurrences total remainder-of holds truths fits-count at-text at-content at-tag text-targets content-targets element-targets kind of-kind looks-of tries element-looks and-also gist items child-words child-states judge-text judge-element judge-node run last-zero root-verdict verdict swapped lift-order pair-order joint-order coefficient-of lift-sum lift-step joint-count pair-rule joint-rules joint positions-of arcs-of steps-of within-limits class-number is class-of letter-byte name-byte is-name same-bytes digit-byte kind-of-text prepend lines number-from tag-of name-of good-line lines-checked names-of moves move place-number move-number does name-at trimmed text-at behind text-node tag-node outside closed moved state-at refusal-2 refusal-3 refusal-4 innermost refusal-5 start-tag refusal-6 refusal-7 number-at first-refused form-of read read-tree verdict-of swap swap-out in-second joined join join-said join-out formcheck
+unfolding Holds table list rules-of-S S S-plus S-swapped T bare-sheet file bytes flatMap has every only from row grid _>>=_ _>>_ require room-for answer-of buffer-after size words is-text nodes text-symbol tag-symbol look children-by children tree-of without-starts mask set-words signed-word arc-word order-words sum-words step-words count-words rule-words sheet-words small then word one-of all bit members set-below arc-ok arc order signed coefficient sum at-most-step remainder-step one-earlier two-earlier step steps target text-rule tag-rule order-rule count-rule order-count-rule rule sheet ended sheet-of file-words entered next-set last-set meets fits-order reads-from reads occurrences total remainder-of holds truths fits-count at-text at-content at-tag text-targets content-targets element-targets kind of-kind looks-of tries element-looks and-also gist items child-words child-states judge-text judge-element judge-node run last-zero root-verdict verdict swapped lift-order pair-order joint-order coefficient-of lift-sum lift-step joint-count pair-rule joint-rules joint positions-of arcs-of steps-of within-limits class-number is class-of letter-byte name-byte is-name same-bytes digit-byte kind-of-text prepend lines number-from tag-of name-of good-line lines-checked names-of moves move place-number move-number does name-at trimmed text-at behind text-node tag-node outside closed moved state-at refusal-2 refusal-3 refusal-4 innermost refusal-5 start-tag refusal-6 refusal-7 number-at first-refused form-of read read-tree verdict-of swap swap-out in-second joined join join-said join-out formcheck digits decimal field line-of formcheck-line
 computed =
     refl and refl and refl and refl and refl and refl and refl and refl and refl and refl and refl and refl and refl and refl and refl and refl
-    and that-is-all
+    and refl and refl and refl and that-is-all
 
 pub cases-hold : (c : Case) → c ∈ table → Holds c
 cases-hold = all-∈ Holds computed

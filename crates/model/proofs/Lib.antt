@@ -34,5 +34,6 @@ pub mod ReadGood
 pub mod RoundTrip
 pub mod Examples
 pub mod Cut
+pub mod LineLaws
 pub mod Cases
 pub mod Refusals

@@ -17,7 +17,8 @@ use Rattle.model.specs.Written.{source-bytes, tagged, written, text-byte
 use Rattle.model.specs.Text.{State, blank, moves, move, place-number, move-number, does, name-at, trimmed, text-at, behind, text-node, tag-node, outside, closed, moved, state-at, refusal-2, refusal-3, refusal-4, innermost, refusal-5, start-tag, refusal-6, refusal-7, number-at, first-refused, form-of}
 use Rattle.model.specs.Calls.{names-said, read-said, tree-said, write-said, sheet-said, from-file, from-file-said, verdict-of, judge-said, first-states, states-after, judge-states, swap-said, swap-out, in-second, joined, join-said, join-out}
 use Rattle.model.specs.Calls as calls
-use Rattle.model.proofs.Examples.{bytes, All, that-is-all, _and_, all-∈, both}
+use Rattle.model.specs.Line.{bytes}
+use Rattle.model.proofs.Examples.{All, that-is-all, _and_, all-∈, both}
 
 -- ---- the calls, on short inputs
 

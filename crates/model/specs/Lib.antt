@@ -11,3 +11,4 @@ pub mod Names
 pub mod Text
 pub mod Written
 pub mod Calls
+pub mod Line
