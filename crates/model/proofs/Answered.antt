@@ -18,7 +18,7 @@ use Rattle.model.proofs.SheetCode.{sheet-refuses}
 use Rattle.model.proofs.TreeLaws.{tree-refuses}
 
 -- every case of `Refusal` says a number and a place
-refusal-says : (x : Refusal) → (n i : ℕ) × (said-refusal x ≡ refusal n i)
+pub refusal-says : (x : Refusal) → (n i : ℕ) × (said-refusal x ≡ refusal n i)
 unfolding said-refusal
 refusal-says LongText = (_, _, refl)
 refusal-says (ForbiddenByte i) = (_, _, refl)

@@ -12,9 +12,10 @@ use Rattle.model.specs.Text.{form-of}
 use Rattle.model.specs.Calls.{names-said, read-said, read-tree}
 use Rattle.model.specs.Calls as calls
 use Rattle.model.specs.declared.Refusal.{Refusal}
-use Rattle.model.specs.declared.Refusal.the-variants.{LongText, ForbiddenByte, Syntax, UnknownName, OtherName, Depth, ManyNodes, NameList, Sheet, Tree, TextWords, TagCounts, JointLimit, ShortBuffer, TwoStates, LongForm}
+use Rattle.model.specs.declared.Refusal.the-variants.{LongText, ShortBuffer}
 use Rattle.model.specs.declared.Answer.{Answer}
 use Rattle.model.specs.declared.Answer.the-variants.{Count, Error}
+use Rattle.model.proofs.Answered.{refusal-says}
 use Rattle.model.proofs.CheckLaws.{bind-passes}
 use Rattle.model.proofs.TreeLaws.{length-wordsD}
 use Rattle.model.proofs.Scan.{scan-is}
@@ -24,26 +25,6 @@ use Rattle.reader.specs.Packed.{all-unpacked}
 use Rattle.reader.specs.Reading.{Refuses, Whole}
 
 -- ---- the check of the name list
-
--- a refusal says a number and a place
-refusal-says : (x : Refusal) → (n : ℕ) × (i : ℕ) × (said-refusal x ≡ refusal n i)
-unfolding said-refusal
-refusal-says LongText = (1, 65535, refl)
-refusal-says (ForbiddenByte i) = (2, i, refl)
-refusal-says (Syntax i) = (3, i, refl)
-refusal-says (UnknownName i) = (4, i, refl)
-refusal-says (OtherName i) = (5, i, refl)
-refusal-says (Depth i) = (6, i, refl)
-refusal-says (ManyNodes i) = (7, i, refl)
-refusal-says (NameList i) = (8, i, refl)
-refusal-says (Sheet i) = (9, i, refl)
-refusal-says (Tree i) = (10, i, refl)
-refusal-says (TextWords i) = (11, i, refl)
-refusal-says (TagCounts g) = (20, g, refl)
-refusal-says (JointLimit k) = (21, k, refl)
-refusal-says (ShortBuffer n) = (22, n, refl)
-refusal-says (TwoStates i) = (23, i, refl)
-refusal-says (LongForm n) = (24, n, refl)
 
 -- an answer counts what passes, and refuses what is refused
 counts-passed : (c : Checked ℕ) (g : ℕ) → said (Count g) ≡ answer-of (λ n. n) c → c ≡ passes g
