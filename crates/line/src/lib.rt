@@ -67,9 +67,9 @@ pub fn of_answer(answer: Answer, out: &mut [u8; MOST_BYTES]) -> usize
 {
     match answer {
         Answer::Count(n) => {
-            let at = put(out, 0, b"count");
-            let end = put_field(out, at, n as u64);
-            put(out, end, b"\n")
+            let number_at = put(out, 0, b"count");
+            let last = put_field(out, number_at, n as u64);
+            put(out, last, b"\n")
         }
         Answer::Error(refusal) => error(refusal, out),
     }

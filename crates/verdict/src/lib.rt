@@ -1,15 +1,29 @@
 // What formcheck says of a name list, a sheet's file and a form.
 ghost use mathlib.Core.Path.{_≡_};
-ghost use mathlib.Core.List.{List};
+ghost use mathlib.Core.List.{List, _++_};
 ghost use Prim.Native.Nat.{ℕ};
+ghost use lib.ListN.{length, drop, replicate};
+ghost use Rattle.io.specs.Counts.{Counts};
 ghost use Rattle.model.specs.Answers.{said-judgement, passes};
 ghost use Rattle.model.specs.Sheet.{file-words};
 ghost use Rattle.model.specs.Names.{names-of};
 ghost use Rattle.model.specs.Calls.{formcheck};
+ghost use Rattle.model.specs.Line.{formcheck-line};
 ghost use Rattle.judge.specs.Index.{Passes};
+ghost use Rattle.verdict.specs.Sizes.{names-bytes, sheet-bytes, form-bytes};
 use model::Answer;
 use model::Judgement;
 use model::Refusal;
+
+// What is read of each file. These bytes decide the line, however long the file is (`whole` in proofs/Claims.antt): a name list that
+// passes has at most 1,600 bytes, a sheet 65,536 and a form 65,535.
+const NAMES_BYTES: usize = 4096;
+
+const SHEET_BYTES: usize = 65540;
+
+const FORM_BYTES: usize = 65536;
+
+pub const LINE_BYTES: usize = line::MOST_BYTES;
 
 const MOST_WORDS: usize = 16384;
 
@@ -64,4 +78,33 @@ pub fn check(list: &[u8], file: &[u8], text: &[u8]) -> Judgement
             }
         }
     }
+}
+
+// The line that formcheck prints of them goes to the front of `out`; its number of bytes.
+pub fn line(list: &[u8], file: &[u8], text: &[u8], out: &mut [u8; LINE_BYTES]) -> usize
+    ensures bytes { λ r. ⌜ r ≡ length (formcheck-line (now (list .entry)) (now (file .entry)) (now (text .entry))) ⌝ }
+    ensures out { λ r. ⌜ now (out .exit) ≡ formcheck-line (now (list .entry)) (now (file .entry)) (now (text .entry)) ++ drop r (now (out .entry)) ⌝ }
+    ensures within { λ r. ⌜ Counts r (now (out .exit)) ⌝ }
+{
+    line::of_judgement(check(list, file, text), out)
+}
+
+// ---- arrays for the files
+
+pub fn names_array() -> [u8; NAMES_BYTES]
+    ensures { λ r. ⌜ r ≡ replicate names-bytes 0 ⌝ }
+{
+    [0; NAMES_BYTES]
+}
+
+pub fn sheet_array() -> [u8; SHEET_BYTES]
+    ensures { λ r. ⌜ r ≡ replicate sheet-bytes 0 ⌝ }
+{
+    [0; SHEET_BYTES]
+}
+
+pub fn form_array() -> [u8; FORM_BYTES]
+    ensures { λ r. ⌜ r ≡ replicate form-bytes 0 ⌝ }
+{
+    [0; FORM_BYTES]
 }

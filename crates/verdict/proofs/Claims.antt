@@ -1,0 +1,37 @@
+-- The line of whole files, by the promise of `line` alone. A program reads as much of each file as its array holds; `names_array`,
+-- `sheet_array` and `form_array` promise how much that is.
+use mathlib.Core.Path.{_≡_, sym, ap, _∙_}
+use mathlib.Core.List.{List, _++_}
+use Prim.Native.Nat.{ℕ}
+use native.Mathlib.Omega.{arith}
+use lib.ListN.{length, take, drop}
+use lib.Seq.{take-at, drop-at}
+use denote.Ref.{now}
+use Rattle.model.specs.Line.{line-of, formcheck-line}
+use Rattle.model.proofs.Cut.{formcheck-cut}
+use Rattle.verdict.specs.Sizes.{names-bytes, sheet-bytes, form-bytes}
+use Rattle.verdict.proofs.line.Reads as reads
+
+-- What `line` promises of its answer r and of what it leaves of the lent array: two of its `ensures`, on the bytes that it is lent.
+pub record Promised (list file s out : List ℕ) (r : ℕ) (left : List ℕ) : Type 0 where
+  pub count : r ≡ length (formcheck-line list file s)
+  pub buffer : left ≡ formcheck-line list file s ++ drop r out
+
+-- The promise that is proved of the code gives this one: `reads.Post` is how the `ensures` of `line` read, of lifetimes κs, arguments a,
+-- answer r, and x, what the arguments hold at the end.
+pub promised : (κs : _) (a : _) (r : ℕ) (x : _) → reads.Post κs a r x
+    → Promised (now (a .0)) (now (a .1 .0)) (now (a .1 .1 .0)) (now (a .1 .1 .1 .0)) r (now (x .1 .1 .1 .0))
+promised κs a r x (count, (buffer, within)) = record { count = count; buffer = buffer }
+
+-- The fronts that are read have the line of the whole files, however long these are.
+pub whole : (list file s : List ℕ) → formcheck-line (take names-bytes list) (take sheet-bytes file) (take form-bytes s) ≡ formcheck-line list file s
+unfolding formcheck-line
+whole list file s = ap line-of (formcheck-cut list file s {n = names-bytes} {q = 16385} {k = form-bytes} (omega arith) (omega arith) (omega arith))
+
+-- So `line`, lent these fronts, leaves the line of the files in its first r bytes, and what stood behind them.
+module _ (list file s : List ℕ) {out left : List ℕ} {r : ℕ} (promise : Promised (take names-bytes list) (take sheet-bytes file) (take form-bytes s) out r left) where
+  pub line-left : take r left ≡ formcheck-line list file s
+  line-left = ap (take r) (promise .buffer) ∙ take-at _ (drop r out) r (sym (promise .count)) ∙ whole list file s
+
+  pub past-left : drop r left ≡ drop r out
+  past-left = ap (drop r) (promise .buffer) ∙ drop-at (formcheck-line (take names-bytes list) (take sheet-bytes file) (take form-bytes s)) (drop r out) r (sym (promise .count))
