@@ -1,10 +1,16 @@
--- Numbers in decimal: the digits of a number come to it in base ten, each is a digit, and only 0 begins with the digit 0.
-use mathlib.Core.Path.{_≡_, refl, _∙_}
+-- Numbers in decimal: the digits of a number come to it in base ten, each is a digit, and only 0 begins with the digit 0. And lines:
+-- what was said can be read back from its line.
+use mathlib.Core.Path.{_≡_, refl, sym, ap, _∙_}
 use mathlib.Core.Logic.{_≢_}
-use mathlib.Core.List.{List, [], _∷_, _++_}
+use mathlib.Core.Bool.{cond}
+use mathlib.Core.List.{List, [], _∷_, _++_, append-assoc}
 use Prim.Native.Nat.{ℕ, zero, suc, _+_, _-_, _*_, _/_, _%_, _≤_, _<_}
 use native.Mathlib.Omega.{arith}
-use Rattle.model.specs.Line.{bytes, digits, decimal}
+use lib.Dec.{eqb, leb}
+use lib.ListN.{getD, drop}
+use borrow.Author.Tests.{le-leb, lt-leb}
+use Rattle.model.specs.Answers.{Said, count, accepted, refused, stuck, refusal}
+use Rattle.model.specs.Line.{bytes, digits, decimal, field, line-of}
 
 -- ---- statements
 
@@ -88,3 +94,48 @@ pub decimal-leads : (n : ℕ) → 0 < n → Leads (decimal n)
 unfolding decimal
 decimal-leads zero pos = absurd (omega arith)
 decimal-leads (suc n) pos = digits-lead (suc n) (suc n) pos (omega arith)
+
+-- ---- a line is read back
+
+-- the number at the front of some bytes, behind digits that come to a, and what stands behind it
+number : ℕ → List ℕ → ℕ × List ℕ
+number a [] = (a, [])
+number a (d ∷ l) = cond (leb 48 d) (number (a * 10 + (d - 48)) l) (a, d ∷ l)
+
+number-reads : (l : List ℕ) (a b : ℕ) (rest : List ℕ) → Digits l → b < 48 → number a (l ++ (b ∷ rest)) ≡ (value a l, b ∷ rest)
+unfolding number value Digits
+number-reads [] a b rest h low = rw (lt-leb 48 b low)
+number-reads (d ∷ l) a b rest (from, to, h) low = rw (le-leb 48 d from) (number-reads l (a * 10 + (d - 48)) b rest h low)
+
+decimal-reads : (n b : ℕ) (rest : List ℕ) → b < 48 → number 0 (decimal n ++ (b ∷ rest)) ≡ (n, b ∷ rest)
+decimal-reads n b rest low = number-reads (decimal n) 0 b rest (decimal-digits n) low ∙ ap (λ v. (v, b ∷ rest)) (decimal-value n)
+
+-- two numbers, parted by one byte
+two-numbers : (ℕ → ℕ → Said) → List ℕ → Said
+two-numbers f l = f (number 0 l .0) (number 0 (drop 1 (number 0 l .1)) .0)
+
+two-read : (f : ℕ → ℕ → Said) (a b : ℕ) → two-numbers f ((decimal a ++ (32 ∷ decimal b)) ++ (10 ∷ [])) ≡ f a b
+unfolding two-numbers
+two-read f a b =
+    rw (append-assoc (decimal a) (32 ∷ decimal b) (10 ∷ []), decimal-reads a 32 (decimal b ++ (10 ∷ [])) (omega arith), decimal-reads b 10 [] (omega arith))
+
+-- what a line says, by its first letter
+pub read-line : List ℕ → Said
+read-line l =
+    let first = getD l 0 0 in
+    cond (eqb first 97) (two-numbers accepted (drop 9 l))
+    (cond (eqb first 114) (two-numbers refused (drop 8 l))
+    (cond (eqb first 115) (two-numbers stuck (drop 6 l))
+    (cond (eqb first 101) (two-numbers refusal (drop 6 l)) (count (number 0 (drop 6 l) .0)))))
+
+pub line-reads : (s : Said) → read-line (line-of s) ≡ s
+unfolding read-line line-of field bytes
+line-reads (accepted q m) = two-read accepted q m
+line-reads (refused q m) = two-read refused q m
+line-reads (stuck i m) = two-read stuck i m
+line-reads (refusal n i) = two-read refusal n i
+line-reads (count n) = ap (λ r. count (r .0)) (decimal-reads n 10 [] (omega arith))
+
+-- So a line tells what was said.
+pub line-tells : (s t : Said) → line-of s ≡ line-of t → s ≡ t
+line-tells s t e = sym (line-reads s) ∙ ap read-line e ∙ line-reads t
