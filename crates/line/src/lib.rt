@@ -40,8 +40,9 @@ fn put_field(out: &mut [u8; MOST_BYTES], at: usize, n: u64) -> usize
     put(out, start, &digits[..k])
 }
 
-// ---- lines
+// ---- lines, from the front of `out` on
 
+// A word and two numbers.
 fn pair(word: &[u8], first: u64, second: u64, out: &mut [u8; MOST_BYTES]) -> usize
     requires { ⌜ length (now word) ≤ 8 ⌝ }
     ensures { λ r. ⌜ Put (now (out .entry)) 0 (pair-line (now (word .entry)) first second) r (now (out .exit)) ⌝ }

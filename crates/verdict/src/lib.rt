@@ -1,4 +1,4 @@
-// What formcheck says of a name list, a sheet's file and a form.
+// What formcheck says of a name list, a sheet's file and a form, and the line that it prints.
 ghost use mathlib.Core.Path.{_≡_};
 ghost use mathlib.Core.List.{List, _++_};
 ghost use Prim.Native.Nat.{ℕ};
@@ -15,14 +15,15 @@ use model::Answer;
 use model::Judgement;
 use model::Refusal;
 
-// What is read of each file. These bytes decide the line, however long the file is (`whole` in proofs/Claims.antt): a name list that
-// passes has at most 1,600 bytes, a sheet 65,536 and a form 65,535.
+// The bytes that are read of each file. They decide the line, however long the file is (`whole` in proofs/Claims.antt): a name list
+// that passes has at most 1,600 bytes, a sheet 65,536 and a form 65,535.
 const NAMES_BYTES: usize = 4096;
 
 const SHEET_BYTES: usize = 65540;
 
 const FORM_BYTES: usize = 65536;
 
+// A line has at most so many bytes.
 pub const LINE_BYTES: usize = line::MOST_BYTES;
 
 const MOST_WORDS: usize = 16384;
@@ -80,7 +81,7 @@ pub fn check(list: &[u8], file: &[u8], text: &[u8]) -> Judgement
     }
 }
 
-// The line that formcheck prints of them goes to the front of `out`; its number of bytes.
+// The line that formcheck prints of a name list, the bytes of a sheet's file and a form goes to the front of `out`; its number of bytes.
 pub fn line(list: &[u8], file: &[u8], text: &[u8], out: &mut [u8; LINE_BYTES]) -> usize
     ensures bytes { λ r. ⌜ r ≡ length (formcheck-line (now (list .entry)) (now (file .entry)) (now (text .entry))) ⌝ }
     ensures out { λ r. ⌜ now (out .exit) ≡ formcheck-line (now (list .entry)) (now (file .entry)) (now (text .entry)) ++ drop r (now (out .entry)) ⌝ }
@@ -89,7 +90,7 @@ pub fn line(list: &[u8], file: &[u8], text: &[u8], out: &mut [u8; LINE_BYTES]) -
     line::of_judgement(check(list, file, text), out)
 }
 
-// ---- arrays for the files
+// ---- arrays to read the files into, each as long as what decides the line
 
 pub fn names_array() -> [u8; NAMES_BYTES]
     ensures { λ r. ⌜ r ≡ replicate names-bytes 0 ⌝ }
