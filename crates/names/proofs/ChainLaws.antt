@@ -2,11 +2,11 @@
 use mathlib.Core.Path.{_≡_, refl, sym, ap, _∙_}
 use mathlib.Core.Logic.{_≢_}
 use mathlib.Core.Bool.{Bool, true, false}
-use mathlib.Core.List.{List}
+use mathlib.Core.List.{List, [], _∷_}
 use Prim.Native.Nat.{ℕ, zero, suc, _+_, _-_, _*_, _%_, _≤_, _<_}
 use native.Mathlib.Omega.{arith}
 use native.Mathlib.Decide.{ℕ-discrete}
-use lib.ListN.{length, getD, drop, set, replicate, drop-of-length-le, length-set, length-replicate, getD-replicate}
+use lib.ListN.{length, getD, set, replicate, length-set, length-replicate, getD-replicate}
 use lib.Seq.{getD-set-same, getD-set-other}
 use Rattle.model.specs.Answers.{passes}
 use Rattle.model.specs.Bytes.{same-bytes}
@@ -14,19 +14,19 @@ use Rattle.model.specs.Names.{name-of, tag-of, names-of}
 use Rattle.model.proofs.Tests.{never}
 use Rattle.model.proofs.NameLaws.{same-bytes-refl, bytes-same, tag-of-name, tag-some, tag-few, name-of-tag}
 use Rattle.names.specs.Lines.{line-count, Indexed, no-tag, name-by}
-use Rattle.names.specs.Chains.{bucket-from, bucket, along, Last, Chained}
-use Rattle.names.proofs.Scan.{here}
+use Rattle.names.specs.Chains.{bucket, along, Last, Chained}
 use Rattle.names.proofs.IndexLaws.{tag-is, name-is}
 
 -- ---- buckets
 
-pub bucket-on : (name : List ℕ) (h i : ℕ) → i < length name → bucket-from h (drop i name) ≡ bucket-from ((13 * h + getD name i 0) % 64) (drop (i + 1) name)
-unfolding bucket-from
-bucket-on name h i inside = rw (here name i inside)
+pub bucket-none : (name : List ℕ) → length name ≡ 0 → 0 ≡ bucket name
+unfolding bucket
+bucket-none [] e = refl
+bucket-none (b ∷ s) e = absurd (omega arith)
 
-pub bucket-end : (name : List ℕ) (h i : ℕ) → length name ≤ i → bucket-from h (drop i name) ≡ h
-unfolding bucket-from
-bucket-end name h i out = rw (drop-of-length-le name out)
+pub bucket-some : (name : List ℕ) {i : ℕ} → i ≡ length name - 2 → (getD name 0 0 + 9 * getD name i 0 + getD name (length name - 1) 0) % 64 ≡ bucket name
+unfolding bucket
+bucket-some name e = rw e
 
 -- ---- along a chain
 

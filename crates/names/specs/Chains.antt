@@ -1,20 +1,16 @@
 -- Chains of tags, by buckets of their names. Of each bucket the last tag is kept, and of each tag the one before it in its bucket.
 use mathlib.Core.Path.{_≡_}
 use mathlib.Core.Bool.{cond}
-use mathlib.Core.List.{List, [], _∷_}
+use mathlib.Core.List.{List}
 use Prim.Native.Nat.{ℕ, zero, suc, _+_, _-_, _*_, _%_, _≤_, _<_}
 use lib.ListN.{length, getD}
 use Rattle.model.specs.Bytes.{same-bytes}
 use Rattle.model.specs.Names.{name-of}
 use Rattle.names.specs.Lines.{no-tag, name-by}
 
--- the bucket of a name, one of 64
-unfoldable pub bucket-from : ℕ → List ℕ → ℕ
-bucket-from h [] = h
-bucket-from h (b ∷ s) = bucket-from ((13 * h + b) % 64) s
-
-abbrev pub bucket : List ℕ → ℕ
-bucket name = bucket-from 0 name
+-- the bucket of a name, one of 64, by its first byte and its last two
+unfoldable pub bucket : List ℕ → ℕ
+bucket name = (getD name 0 0 + 9 * getD name (length name - 2) 0 + getD name (length name - 1) 0) % 64
 
 -- along a chain from tag t on, n tags far: the first tag with the name, 0 where there is none. A number that is no tag ends the chain.
 unfoldable pub along : (list starts nexts name : List ℕ) → (n t : ℕ) → ℕ

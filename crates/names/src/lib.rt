@@ -132,18 +132,19 @@ pub fn find_chained(
     0
 }
 
-// The chain that a name's tag is in.
+// The chain that a name's tag is in. Only the first byte and the last two are looked at: names of one list mostly differ in them.
 pub fn bucket(name: &[u8]) -> usize
     ensures is { λ r. ⌜ r ≡ bucket (now (name .entry)) ⌝ }
     ensures within { λ r. ⌜ r < 64 ⌝ }
 {
-    let mut hash = 0;
-    let mut i = 0;
-    while i < name.len() {
-        hash = (13 * hash + name[i] as usize) % BUCKETS;
-        i += 1;
+    let n = name.len();
+    if n == 0 {
+        return 0;
     }
-    hash
+    let first = name[0] as usize;
+    let before_last = name[less(n, 2)] as usize;
+    let last = name[n - 1] as usize;
+    (first + 9 * before_last + last) % BUCKETS
 }
 
 pub fn same_bytes(a: &[u8], b: &[u8]) -> bool
@@ -177,6 +178,13 @@ fn least(a: usize, b: usize) -> usize
     ensures { λ r. ⌜ r ≡ min a b ⌝ }
 {
     if a < b { a } else { b }
+}
+
+// The difference, or 0.
+fn less(a: usize, b: usize) -> usize
+    ensures { λ r. ⌜ r ≡ a - b ⌝ }
+{
+    if a < b { 0 } else { a - b }
 }
 
 // The offset after the line that begins at `at`.
