@@ -26,12 +26,12 @@ use Rattle.model.proofs.RoundScan.{state, an-open}
 use Rattle.names.specs.Lines.{line-count, name-by}
 use Rattle.reader.specs.Listing.{Listing}
 use Rattle.reader.specs.Packed.{packed, unpacked, closed-words, closed-scan, Holds, outermost, inside}
-use Rattle.reader.specs.Reading.{at-offset, Reads, ReadsAt, AtStartTag, Solid, Refuses, stop-refusal, Goes, Whole}
+use Rattle.reader.specs.Reading.{at-offset, Reads, ReadsAt, AtStartTag, InContent, AtToken, Solid, Refuses, stop-refusal, Goes, Whole}
 use Rattle.reader.specs.Runs.{run, class-within, first-class, trim}
 use Rattle.reader.specs.declared.Scan.{Scan}
 use Rattle.reader.specs.declared.Step.{Step}
 use Rattle.reader.specs.declared.Step.the-variants.{On, Refused}
-use Rattle.reader.proofs.RunLaws.{byte-there, run-within, name-run, text-run, kind-few}
+use Rattle.reader.proofs.RunLaws.{byte-there, no-white-run, run-within, name-run, text-run, kind-few}
 use Rattle.reader.proofs.TagLaws.{tag-named, tag-other}
 use Rattle.reader.proofs.Steps.{stop-number, onward}
 use Rattle.reader.proofs.Tokens.{Waits, before-waits, blank-waits, start-gap-waits, end-gap-waits, after-waits, Leads, at-root, in-content, white-run, white-left, less-on, too-deep, too-many, unknown, opened, start-ends, slash-on, empty-ends, end-on, end-ends, other-name, own-name, text-end, text-too-many, text-ends, text-broken, stuck-before, stuck-root-open, stuck-tag-open, stuck-blank, stuck-start-gap, stuck-start-slash, stuck-end-open, stuck-end-gap, stuck-after, all-read}
@@ -348,7 +348,7 @@ module _ {list text words : List ℕ} {s : Scan} (reads : Reads list text words 
 
   -- a tag
   module _ (less-there : class ≡ 4) (next : ℕ) (told-next : next ≡ first-class (drop (at + 1) text)) where
-    pub start-tag-there : next ≡ 1 → AtStartTag list text words (at-offset s at)
+    start-tag-there : next ≡ 1 → AtStartTag list text words (at-offset s at)
     start-tag-there e = record { place = blank; leads = inr refl; reads = token-there; opening = sym told ∙ less-there; letter-next = sym told-next ∙ e }
 
     pub end-tag-there : next ≡ 6 → ReadsAt list text words end-open (at-offset s (at + 2))
@@ -384,6 +384,29 @@ module _ {list text words : List ℕ} {s : Scan} (reads : Reads list text words 
       small : Dec (8 ≤ class) → class < 8
       small (yes h) = never (sym e ∙ or-right (eqb class 5) (le-leb 8 class h))
       small (no h) = omega arith
+
+-- the root's start tag, or a token of content
+module _ {list text words : List ℕ} {s : Scan} (at class : ℕ) (skipped : at ≡ s .at + run (class-within 0 0) (drop (s .at) text)) (told : class ≡ first-class (drop at text)) where
+  -- before the root's start tag no white is left
+  same-place : AtStartTag list text words s → at ≡ s .at
+  same-place a = omega (arith, no-white-run text (s .at) (λ z. absurd (omega (arith, a .opening))))
+
+  pub no-root : class ≢ 4 → AtToken list text words s → InContent list text words s
+  no-root no-less (inl a) = absurd (no-less (rw (same-place a) at told ∙ a .opening))
+  no-root no-less (inr r) = r
+
+  module _ (next : ℕ) (told-next : next ≡ first-class (drop (at + 1) text)) where
+    pub no-root-tag : next ≢ 1 → AtToken list text words s → InContent list text words s
+    no-root-tag no-letter (inl a) = absurd (no-letter (rw (same-place a) at told-next ∙ a .letter-next))
+    no-root-tag no-letter (inr r) = r
+
+    pub at-start-tag : class ≡ 4 → next ≡ 1 → AtToken list text words s → AtStartTag list text words (at-offset s at)
+    at-start-tag less-there letter (inl a) = rw (same-place a) a
+    at-start-tag less-there letter (inr (deep, r)) = start-tag-there r deep at class skipped told less-there next told-next letter
+
+pub token-within : {list text words : List ℕ} {s : Scan} → AtToken list text words s → (s .at ≤ length text) × (length text ≤ 65535)
+token-within (inl a) = (a .reads .within, a .reads .short)
+token-within (inr (deep, r)) = (r .within, r .short)
 
 -- a token that begins later begins as late
 pub goes-from : (list text words : List ℕ) {i j : ℕ} (step : Step) → i ≤ j → Goes list text words j step → Goes list text words i step

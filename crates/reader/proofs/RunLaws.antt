@@ -1,7 +1,7 @@
 -- Runs of bytes: how far they go, what they leave, and the names and texts that they are.
 use mathlib.Core.Path.{_≡_, refl, sym, ap, _∙_}
 use mathlib.Core.Logic.{_≢_}
-use mathlib.Core.Bool.{Bool, true, false, cond, not, _&&_, _||_, and-true, and-assoc}
+use mathlib.Core.Bool.{Bool, true, false, cond, not, _&&_, _||_, and-true, and-false, and-assoc}
 use mathlib.Core.List.{List, [], _∷_, _++_}
 use Prim.Native.Nat.{ℕ, zero, suc, _+_, _-_, _≤_, _<_}
 use native.Mathlib.Numerals.{add-one}
@@ -9,7 +9,7 @@ use native.Mathlib.Omega.{arith}
 use lib.Dec.{eqb, leb}
 use lib.ListN.{length, getD, take, drop, drop-of-length-le, length-drop}
 use lib.Seq.{drop-cons, take-suc, getD-drop, drop-drop}
-use borrow.Author.Tests.{eq-eqb, ne-eqb}
+use borrow.Author.Tests.{eq-eqb, ne-eqb, lt-leb}
 use Rattle.model.specs.Lists.{every}
 use Rattle.model.specs.Bytes.{Class, white, letter, digit, hyphen, less, greater, slash, other, forbidden, class-number, is, class-of, digit-byte, name-byte, kind-of-text, within}
 use Rattle.model.specs.Text.{name-at, trimmed, text-at}
@@ -82,6 +82,15 @@ module _ (test : ℕ → Bool) (s : List ℕ) (i : ℕ) {x : ℕ} (ends : i + ru
   -- past so many bytes that all pass the test
   pub run-all : (m : ℕ) → i + m ≤ length s → Yes (every test (take m (drop i s))) → i + m + run test (drop (i + m) s) ≡ x
   run-all m h e = rw (← drop-drop m i s) (omega (arith, all-pass test m (drop i s) (rw length-drop (omega arith)) e))
+
+-- no white where the first byte's class is another
+pub no-white-run : (s : List ℕ) (i : ℕ) → first-class (drop i s) ≢ 0 → run (class-within 0 0) (drop i s) ≡ 0
+unfolding run first-class class-within
+no-white-run s i h = by (drop i s) h
+  where
+    by : (l : List ℕ) → first-class l ≢ 0 → run (class-within 0 0) l ≡ 0
+    by [] h = refl
+    by (b ∷ l) h = rw (lt-leb (class-number (class-of b)) 0 (omega arith), and-false)
 
 every-append : (test : ℕ → Bool) (xs : List ℕ) (x : ℕ) → every test (xs ++ (x ∷ [])) ≡ (every test xs && test x)
 unfolding every

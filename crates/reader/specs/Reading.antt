@@ -51,6 +51,13 @@ pub record AtStartTag (list text words : List ℕ) (s : Scan) : Type 0 where
   pub opening : first-class (drop (s .at) text) ≡ 4
   pub letter-next : first-class (drop (s .at + 1) text) ≡ 1
 
+-- where a token is to be read: the root's start tag, or content
+abbrev pub InContent : (list text words : List ℕ) → Scan → Type 0
+InContent list text words s = (1 ≤ s .depth) × Reads list text words outside s
+
+abbrev pub AtToken : (list text words : List ℕ) → Scan → Type 0
+AtToken list text words s = AtStartTag list text words s ⊎ InContent list text words s
+
 -- the class of a byte that begins a text in content: none of white, <, > and forbidden
 pub record Solid (class : ℕ) : Type 0 where
   pub no-white : class ≢ 0
@@ -68,6 +75,14 @@ pub record Refuses (form : Checked Document) (r : Refusal) : Type 0 where
 -- the refusal of a byte, by its class, or the end, that the form can't go on with
 abbrev pub stop-refusal : (class at : ℕ) → Refusal
 stop-refusal class at = cond (eqb class 8) (ForbiddenByte at) (Syntax at)
+
+-- after the white before the root; and so by whatever list and words
+abbrev pub Begun : (list text words : List ℕ) → Step → Type 0
+Begun list text words (On s) = AtStartTag list text words s
+Begun list text words (Refused r) = Refuses (form-of list text) r
+
+abbrev pub Begins : (text : List ℕ) → Step → Type 0
+Begins text step = (list words : List ℕ) → length words ≡ 4096 → Begun list text words step
 
 -- After a token that begins at offset i or behind it: in content, or after the root, and further on; or refused.
 abbrev pub Goes : (list text words : List ℕ) (i : ℕ) → Step → Type 0
@@ -90,3 +105,7 @@ pub record Whole (list text words : List ℕ) (n : ℕ) : Type 0 where
 abbrev pub Scanned : (list text words : List ℕ) → Answer → Type 0
 Scanned list text words (Count n) = Whole list text words n
 Scanned list text words (Error r) = Refuses (form-of list text) r
+
+-- where a text is read up to a scan, by whatever list and words, it is answered so
+abbrev pub Ends : (text : List ℕ) → Scan → Answer → Type 0
+Ends text s answer = (list words : List ℕ) → Reads list text words outside s → Scanned list text words answer

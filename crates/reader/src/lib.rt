@@ -15,14 +15,14 @@ ghost use Rattle.model.specs.Bytes.{class-number, class-of, kind-of-text};
 ghost use Rattle.model.specs.Calls.{read-said, read-tree};
 ghost use Rattle.model.specs.Lists.{every};
 ghost use Rattle.model.specs.Names.{names-of, tag-of};
-ghost use Rattle.model.specs.Text.{blank, start-gap, end-open, outside};
+ghost use Rattle.model.specs.Text.{blank, start-gap, end-open};
 ghost use Rattle.model.specs.Written.{text-byte};
 ghost use Rattle.chars.specs.Table.{table};
 ghost use Rattle.names.specs.Lines.{line-count, Indexed};
 ghost use Rattle.names.specs.Chains.{Chained};
 ghost use Rattle.reader.specs.Listing.{Listing};
 ghost use Rattle.reader.specs.Packed.{packed, unpacked, all-unpacked, closed-words, closed-scan};
-ghost use Rattle.reader.specs.Reading.{Reads, ReadsAt, AtStartTag, Solid, Goes, GoesFrom, Scanned, at-offset, stop-refusal};
+ghost use Rattle.reader.specs.Reading.{ReadsAt, AtStartTag, AtToken, Solid, Begins, Goes, GoesFrom, Scanned, Ends, at-offset, stop-refusal};
 ghost use Rattle.reader.specs.Runs.{run, class-within, first-class, trim};
 
 // A text has at most so many bytes.
@@ -121,28 +121,18 @@ fn scan_form(list: &[u8], text: &[u8], words: &mut Words) -> Answer
     let mut heads = [0usize; names::BUCKETS];
     let mut nexts = [0usize; names::MOST_NAMES + 1];
     chain(list, &lines, count, &mut heads, &mut nexts);
-    let first = root(&classes, list, &lines, &heads, &nexts, text, words);
+    let first = root(&classes, text);
     match first {
         Step::Refused(refusal) => Answer::Error(refusal),
-        Step::On(s) => content(&classes, list, &lines, &heads, &nexts, text, s, words),
+        Step::On(s) => element(&classes, list, &lines, &heads, &nexts, text, s, words),
     }
 }
 
-// White, and the root's start tag.
-fn root(
-    classes: &Classes,
-    list: &[u8],
-    lines: &PerName,
-    heads: &PerBucket,
-    nexts: &PerName,
-    text: &[u8],
-    words: &mut Words,
-) -> Step
+// White, up to the root's start tag. No list is looked at, so the promise is for any list, and any words.
+fn root(classes: &Classes, text: &[u8]) -> Step
     requires { ⌜ now classes ≡ table ⌝ }
-    requires { ⌜ Listing (now list) (now lines) ⌝ }
-    requires { ⌜ Chained (now list) (now heads) (now nexts) (line-count (now list)) ⌝ }
-    requires { ⌜ (length (now text) ≤ 65535) × (length (now words) ≡ 4096) ⌝ }
-    ensures { λ r. ⌜ Goes (now (list .entry)) (now (text .entry)) (now (words .exit)) 0 r ⌝ }
+    requires { ⌜ length (now text) ≤ 65535 ⌝ }
+    ensures { λ r. ⌜ Begins (now (text .entry)) r ⌝ }
 {
     let at = skip(classes, text, 0, chars::WHITE, chars::WHITE);
     let class = class_at(classes, text, at);
@@ -153,17 +143,17 @@ fn root(
     if next != chars::LETTER {
         return Step::Refused(refusal_at(next, at + 1));
     }
-    let s = Scan {
+    Step::On(Scan {
         at,
         top: 0,
         depth: 0,
         nodes: 0,
-    };
-    start_tag(classes, list, lines, heads, nexts, text, s, words)
+    })
 }
 
-// The root's content and end tag, and white up to the end of the text.
-fn content(
+// The root's element, and white up to the end of the text. The root's start tag is a token like any other, so that one place in the
+// code reads start tags.
+fn element(
     classes: &Classes,
     list: &[u8],
     lines: &PerName,
@@ -176,17 +166,28 @@ fn content(
     requires { ⌜ now classes ≡ table ⌝ }
     requires { ⌜ Listing (now list) (now lines) ⌝ }
     requires { ⌜ Chained (now list) (now heads) (now nexts) (line-count (now list)) ⌝ }
-    requires { ⌜ Reads (now list) (now text) (now words) outside start ⌝ }
+    requires { ⌜ AtStartTag (now list) (now text) (now words) start ⌝ }
     ensures { λ r. ⌜ Scanned (now (list .entry)) (now (text .entry)) (now (words .exit)) r ⌝ }
 {
     let mut s = start;
-    while 0 < s.depth {
+    loop {
         let step = token(classes, list, lines, heads, nexts, text, s, words);
         match step {
             Step::Refused(refusal) => return Answer::Error(refusal),
             Step::On(next) => s = next,
         }
+        if s.depth == 0 {
+            return ending(classes, text, s);
+        }
     }
+}
+
+// Behind the root, white up to the end of the text.
+fn ending(classes: &Classes, text: &[u8], s: Scan) -> Answer
+    requires { ⌜ now classes ≡ table ⌝ }
+    requires { ⌜ (s .depth ≡ 0) × (s .at ≤ length (now text)) ⌝ }
+    ensures { λ r. ⌜ Ends (now (text .entry)) s r ⌝ }
+{
     let at = skip(classes, text, s.at, chars::WHITE, chars::WHITE);
     if at < text.len() {
         return Answer::Error(refusal_at(class_at(classes, text, at), at));
@@ -196,7 +197,7 @@ fn content(
 
 // ---- tokens
 
-// One token of content: white and a tag, or white and a text.
+// The root's start tag, or one token of content: white and a tag, or white and a text.
 fn token(
     classes: &Classes,
     list: &[u8],
@@ -210,7 +211,7 @@ fn token(
     requires { ⌜ now classes ≡ table ⌝ }
     requires { ⌜ Listing (now list) (now lines) ⌝ }
     requires { ⌜ Chained (now list) (now heads) (now nexts) (line-count (now list)) ⌝ }
-    requires { ⌜ (1 ≤ s .depth) × Reads (now list) (now text) (now words) outside s ⌝ }
+    requires { ⌜ AtToken (now list) (now text) (now words) s ⌝ }
     ensures { λ r. ⌜ Goes (now (list .entry)) (now (text .entry)) (now (words .exit)) (s .at) r ⌝ }
 {
     let at = skip(classes, text, s.at, chars::WHITE, chars::WHITE);

@@ -1,7 +1,7 @@
 -- `reader::token` meets its contract.
 use native.Mathlib.Omega.{arith}
 use borrow.Author.Needs.{needs}
-use Rattle.reader.proofs.Readings.{start-tag-there, end-tag-there, tag-stuck, content-stuck, text-there, goes-from}
+use Rattle.reader.proofs.Readings.{end-tag-there, tag-stuck, content-stuck, text-there, token-within, no-root, no-root-tag, at-start-tag, goes-from}
 use Rattle.reader.proofs.token.Statement.{statement}
 use Rattle.reader.proofs.token.Tie as tie
 
@@ -9,22 +9,22 @@ pub token-spec : {M : Type 1} → statement M
 token-spec =
     tie.close
     (tie.spec
-    (λ c κs. (c .before .before .pre .0, c .before .before .pre .1 .1 .1 .1 .within))
+    (λ c κs. (c .before .before .pre .0, token-within (c .before .before .pre .1 .1 .1) .0))
     (λ c κs. search needs)
     (λ c. omega (arith, c .before .before .skip .ensures .1))
     (λ c κs. search needs)
     (λ c κs. search needs)
-    (λ c κs. (c .before .before .before .before .before .before .before .before .before .pre .0, (c .before .before .before .before .before .before .before .before .before .pre .1 .0, (c .before .before .before .before .before .before .before .before .before .pre .1 .1 .0, rw (c .before .moved .ensures) (start-tag-there (c .before .before .before .before .before .before .before .before .before .pre .1 .1 .1 .1) (c .before .before .before .before .before .before .before .before .before .pre .1 .1 .1 .0) _ _ (c .before .before .before .before .before .before .skip .ensures .0) (c .before .before .before .before .before .class-at .ensures) (c .before .before .before .before .if1 .taken) _ (c .before .before .before .class-at2 .ensures) (c .before .before .if2 .taken))))))
+    (λ c κs. (c .before .before .before .before .before .before .before .before .before .pre .0, (c .before .before .before .before .before .before .before .before .before .pre .1 .0, (c .before .before .before .before .before .before .before .before .before .pre .1 .1 .0, rw (c .before .moved .ensures) (at-start-tag _ _ (c .before .before .before .before .before .before .skip .ensures .0) (c .before .before .before .before .before .class-at .ensures) _ (c .before .before .before .class-at2 .ensures) (c .before .before .before .before .if1 .taken) (c .before .before .if2 .taken) (c .before .before .before .before .before .before .before .before .before .pre .1 .1 .1))))))
     (λ c. goes-from _ _ _ (c .start-tag .result) (rw (c .before .before .moved .ensures) (omega (arith, c .before .before .before .before .before .before .before .skip .ensures .1))) (c .start-tag .ensures))
     (λ c. omega (arith, c .before .before .before .before .before .skip .ensures .1))
     (λ c κs. search needs)
-    (λ c κs. (c .before .before .before .before .before .before .before .before .before .before .pre .0, (c .before .before .before .before .before .before .before .before .before .before .pre .1 .0, rw (c .before .moved2 .ensures) (c .before .before .before .before .before .before .before .before .before .before .pre .1 .1 .1 .0, end-tag-there (c .before .before .before .before .before .before .before .before .before .before .pre .1 .1 .1 .1) (c .before .before .before .before .before .before .before .before .before .before .pre .1 .1 .1 .0) _ _ (c .before .before .before .before .before .before .before .skip .ensures .0) (c .before .before .before .before .before .before .class-at .ensures) (c .before .before .before .before .before .if1 .taken) _ (c .before .before .before .before .class-at2 .ensures) (c .before .before .if3 .taken)))))
+    (λ c κs. let (deep, r) = no-root-tag _ _ (c .before .before .before .before .before .before .before .skip .ensures .0) (c .before .before .before .before .before .before .class-at .ensures) _ (c .before .before .before .before .class-at2 .ensures) (c .before .before .before .if2 .left) (c .before .before .before .before .before .before .before .before .before .before .pre .1 .1 .1) in (c .before .before .before .before .before .before .before .before .before .before .pre .0, (c .before .before .before .before .before .before .before .before .before .before .pre .1 .0, rw (c .before .moved2 .ensures) (deep, end-tag-there r deep _ _ (c .before .before .before .before .before .before .before .skip .ensures .0) (c .before .before .before .before .before .before .class-at .ensures) (c .before .before .before .before .before .if1 .taken) _ (c .before .before .before .before .class-at2 .ensures) (c .before .before .if3 .taken)))))
     (λ c. goes-from _ _ _ (c .end-tag .result) (rw (c .before .before .moved2 .ensures) (omega (arith, c .before .before .before .before .before .before .before .before .skip .ensures .1))) (c .end-tag .ensures))
     (λ c. omega (arith, c .before .before .before .before .before .skip .ensures .1))
     (λ c κs. search needs)
-    (λ c. rw (c .refusal-at .ensures) (tag-stuck (c .before .before .before .before .before .before .before .before .before .pre .1 .1 .1 .1) (c .before .before .before .before .before .before .before .before .before .pre .1 .1 .1 .0) _ _ (c .before .before .before .before .before .before .skip .ensures .0) (c .before .before .before .before .before .class-at .ensures) (c .before .before .before .before .if1 .taken) _ (c .before .before .before .class-at2 .ensures) (c .before .before .if2 .left) (c .before .if3 .left)))
+    (λ c. let (deep, r) = no-root-tag _ _ (c .before .before .before .before .before .before .skip .ensures .0) (c .before .before .before .before .before .class-at .ensures) _ (c .before .before .before .class-at2 .ensures) (c .before .before .if2 .left) (c .before .before .before .before .before .before .before .before .before .pre .1 .1 .1) in rw (c .refusal-at .ensures) (tag-stuck r deep _ _ (c .before .before .before .before .before .before .skip .ensures .0) (c .before .before .before .before .before .class-at .ensures) (c .before .before .before .before .if1 .taken) _ (c .before .before .before .class-at2 .ensures) (c .before .before .if2 .left) (c .before .if3 .left)))
     (λ c κs. search needs)
-    (λ c. rw (c .refusal-at2 .ensures) (content-stuck (c .before .before .before .before .before .before .before .pre .1 .1 .1 .1) (c .before .before .before .before .before .before .before .pre .1 .1 .1 .0) _ _ (c .before .before .before .before .skip .ensures .0) (c .before .before .before .class-at .ensures) (c .before .if4 .taken)))
+    (λ c. let (deep, r) = no-root _ _ (c .before .before .before .before .skip .ensures .0) (c .before .before .before .class-at .ensures) (c .before .before .if1 .left) (c .before .before .before .before .before .before .before .pre .1 .1 .1) in rw (c .refusal-at2 .ensures) (content-stuck r deep _ _ (c .before .before .before .before .skip .ensures .0) (c .before .before .before .class-at .ensures) (c .before .if4 .taken)))
     (λ c κs. search needs)
-    (λ c κs. (c .before .before .before .before .before .before .before .before .pre .0, rw (c .before .moved3 .ensures) ((omega (arith, c .before .before .before .before .before .skip .ensures .1), c .before .before .before .before .before .before .before .before .pre .1 .1 .1 .1 .short), (c .before .before .before .before .before .before .before .before .pre .1 .1 .1 .0, text-there (c .before .before .before .before .before .before .before .before .pre .1 .1 .1 .1) (c .before .before .before .before .before .before .before .before .pre .1 .1 .1 .0) _ _ (c .before .before .before .before .before .skip .ensures .0) (c .before .before .before .before .class-at .ensures) (c .before .before .before .if1 .left) (c .before .before .if4 .left) .1))))
-    (λ c. goes-from _ _ _ (c .text-node .result) (rw (c .before .before .moved3 .ensures) (omega (arith, c .before .before .before .before .before .before .skip .ensures .1))) (c .text-node .ensures _ (rw (c .before .before .moved3 .ensures) (text-there (c .before .before .before .before .before .before .before .before .before .pre .1 .1 .1 .1) (c .before .before .before .before .before .before .before .before .before .pre .1 .1 .1 .0) _ _ (c .before .before .before .before .before .before .skip .ensures .0) (c .before .before .before .before .before .class-at .ensures) (c .before .before .before .before .if1 .left) (c .before .before .before .if4 .left) .0)))))
+    (λ c κs. let (deep, r) = no-root _ _ (c .before .before .before .before .before .skip .ensures .0) (c .before .before .before .before .class-at .ensures) (c .before .before .before .if1 .left) (c .before .before .before .before .before .before .before .before .pre .1 .1 .1) in (c .before .before .before .before .before .before .before .before .pre .0, rw (c .before .moved3 .ensures) ((omega (arith, c .before .before .before .before .before .skip .ensures .1), r .short), (deep, text-there r deep _ _ (c .before .before .before .before .before .skip .ensures .0) (c .before .before .before .before .class-at .ensures) (c .before .before .before .if1 .left) (c .before .before .if4 .left) .1))))
+    (λ c. let (deep, r) = no-root _ _ (c .before .before .before .before .before .before .skip .ensures .0) (c .before .before .before .before .before .class-at .ensures) (c .before .before .before .before .if1 .left) (c .before .before .before .before .before .before .before .before .before .pre .1 .1 .1) in goes-from _ _ _ (c .text-node .result) (rw (c .before .before .moved3 .ensures) (omega (arith, c .before .before .before .before .before .before .skip .ensures .1))) (c .text-node .ensures _ (rw (c .before .before .moved3 .ensures) (text-there r deep _ _ (c .before .before .before .before .before .before .skip .ensures .0) (c .before .before .before .before .before .class-at .ensures) (c .before .before .before .before .if1 .left) (c .before .before .before .if4 .left) .0)))))
