@@ -67,6 +67,12 @@ struct Scan {
     nodes: usize,
 }
 
+// An offset of a text, and the class of the byte there, or of the end.
+struct Seen {
+    at: usize,
+    class: u8,
+}
+
 // Behind a token the text goes on, or it is refused.
 enum Step {
     On(Scan),
@@ -134,8 +140,9 @@ fn root(classes: &Classes, text: &[u8]) -> Step
     requires { ⌜ length (now text) ≤ 65535 ⌝ }
     ensures { λ r. ⌜ Begins (now (text .entry)) r ⌝ }
 {
-    let at = skip(classes, text, 0, chars::WHITE, chars::WHITE);
-    let class = class_at(classes, text, at);
+    let seen = past_white(classes, text, 0);
+    let at = seen.at;
+    let class = seen.class;
     if class != chars::LESS {
         return Step::Refused(refusal_at(class, at));
     }
@@ -188,9 +195,9 @@ fn ending(classes: &Classes, text: &[u8], s: Scan) -> Answer
     requires { ⌜ (s .depth ≡ 0) × (s .at ≤ length (now text)) ⌝ }
     ensures { λ r. ⌜ Ends (now (text .entry)) s r ⌝ }
 {
-    let at = skip(classes, text, s.at, chars::WHITE, chars::WHITE);
-    if at < text.len() {
-        return Answer::Error(refusal_at(class_at(classes, text, at), at));
+    let seen = past_white(classes, text, s.at);
+    if seen.at < text.len() {
+        return Answer::Error(refusal_at(seen.class, seen.at));
     }
     Answer::Count(s.nodes)
 }
@@ -214,8 +221,9 @@ fn token(
     requires { ⌜ AtToken (now list) (now text) (now words) s ⌝ }
     ensures { λ r. ⌜ Goes (now (list .entry)) (now (text .entry)) (now (words .exit)) (s .at) r ⌝ }
 {
-    let at = skip(classes, text, s.at, chars::WHITE, chars::WHITE);
-    let class = class_at(classes, text, at);
+    let seen = past_white(classes, text, s.at);
+    let at = seen.at;
+    let class = seen.class;
     if class == chars::LESS {
         let next = class_at(classes, text, at + 1);
         if next == chars::LETTER {
@@ -288,8 +296,9 @@ fn start_tag_end(classes: &Classes, text: &[u8], s: Scan, words: &mut Words) -> 
     requires { ⌜ (s .at ≤ length (now text)) × (s .top < s .nodes) × (s .nodes ≤ 4096) × (1 ≤ s .depth) ⌝ }
     ensures { λ r. ⌜ GoesFrom start-gap (now (text .entry)) (now (words .entry)) (now (words .exit)) s r ⌝ }
 {
-    let at = skip(classes, text, s.at, chars::WHITE, chars::WHITE);
-    let class = class_at(classes, text, at);
+    let seen = past_white(classes, text, s.at);
+    let at = seen.at;
+    let class = seen.class;
     if class == chars::GREATER {
         return Step::On(moved(s, at + 1));
     }
@@ -328,8 +337,9 @@ fn end_tag(
     if !names::same_bytes(names::name_of(list, lines, tag), &text[from..end]) {
         return Step::Refused(Refusal::OtherName(from));
     }
-    let at = skip(classes, text, end, chars::WHITE, chars::WHITE);
-    let class = class_at(classes, text, at);
+    let seen = past_white(classes, text, end);
+    let at = seen.at;
+    let class = seen.class;
     if class != chars::GREATER {
         return Step::Refused(refusal_at(class, at));
     }
@@ -405,6 +415,25 @@ fn class_at(classes: &Classes, text: &[u8], at: usize) -> u8
         return class_in(classes, text[at]);
     }
     END
+}
+
+// Behind the white that stands at an offset. Mostly there is none, and the class of one byte tells it.
+fn past_white(classes: &Classes, text: &[u8], at: usize) -> Seen
+    requires { ⌜ now classes ≡ table ⌝ }
+    requires { ⌜ at ≤ length (now text) ⌝ }
+    ensures is { λ r. ⌜ r .at ≡ at + run (class-within 0 0) (drop at (now (text .entry))) ⌝ }
+    ensures within { λ r. ⌜ (at ≤ r .at) × (r .at ≤ length (now (text .entry))) ⌝ }
+    ensures class { λ r. ⌜ r .class ≡ first-class (drop (r .at) (now (text .entry))) ⌝ }
+{
+    let class = class_at(classes, text, at);
+    if class != chars::WHITE {
+        return Seen { at, class };
+    }
+    let behind = skip(classes, text, at, chars::WHITE, chars::WHITE);
+    Seen {
+        at: behind,
+        class: class_at(classes, text, behind),
+    }
 }
 
 // The offset behind the bytes, from an offset on, that are of class `low` to class `high`.
