@@ -13,7 +13,7 @@ use lib.ListN.{length, getD, drop, take, set, length-set, length-drop}
 use lib.Seq.{drop-drop, length-take-le}
 use Rattle.model.specs.Answers.{said-refusal, refusal, Checked, refuses}
 use Rattle.model.specs.Tree.{Span, Element, Document, ε}
-use Rattle.model.specs.Bytes.{same-bytes, kind-of-text}
+use Rattle.model.specs.Bytes.{is-name, same-bytes, kind-of-text}
 use Rattle.model.specs.Names.{tag-of}
 use Rattle.model.specs.Text.{Place, before, root-open, blank, tag-open, start-gap, start-slash, end-open, end-gap, after, Open, innermost, name-at, text-at, behind, text-node, outside, closed, form-of}
 use Rattle.model.specs.Written.{text-byte}
@@ -21,7 +21,7 @@ use Rattle.model.specs.declared.Refusal.{Refusal}
 use Rattle.model.specs.declared.Refusal.the-variants.{ForbiddenByte, Syntax, UnknownName, OtherName, Depth, ManyNodes}
 use Rattle.model.proofs.Scan.{scan-is}
 use Rattle.model.proofs.Tests.{Yes, never, or-left, or-right, or-cases, same, eqb-yes}
-use Rattle.model.proofs.NameLaws.{tag-few}
+use Rattle.model.proofs.NameLaws.{bytes-same, tag-few}
 use Rattle.model.proofs.RoundScan.{state, an-open}
 use Rattle.names.specs.Lines.{line-count, name-by}
 use Rattle.reader.specs.Listing.{Listing}
@@ -31,8 +31,8 @@ use Rattle.reader.specs.Runs.{run, class-within, first-class, trim}
 use Rattle.reader.specs.declared.Scan.{Scan}
 use Rattle.reader.specs.declared.Step.{Step}
 use Rattle.reader.specs.declared.Step.the-variants.{On, Refused}
-use Rattle.reader.proofs.RunLaws.{byte-there, no-white-run, run-within, name-run, text-run, kind-few}
-use Rattle.reader.proofs.TagLaws.{tag-named, tag-other}
+use Rattle.reader.proofs.RunLaws.{byte-there, no-white-run, run-within, name-run, name-first, name-length, text-run, kind-few}
+use Rattle.reader.proofs.TagLaws.{named-well, tag-named, tag-other}
 use Rattle.reader.proofs.Steps.{stop-number, onward}
 use Rattle.reader.proofs.Tokens.{Waits, before-waits, blank-waits, start-gap-waits, end-gap-waits, after-waits, Leads, at-root, in-content, white-run, white-left, less-on, too-deep, too-many, unknown, opened, start-ends, slash-on, empty-ends, end-on, end-ends, other-name, own-name, text-end, text-too-many, text-ends, text-broken, stuck-before, stuck-root-open, stuck-tag-open, stuck-blank, stuck-start-gap, stuck-start-slash, stuck-end-open, stuck-end-gap, stuck-after, all-read}
 use Rattle.reader.proofs.PackLaws.{holds-none, holds-all, packed-tag, unpacked-packed, holds-open, holds-text, open-tag, top-read, parent-above, holds-close}
@@ -244,38 +244,44 @@ module _ {list text words : List ℕ} {s : Scan} (r : ReadsAt list text words en
     pub end-open-stuck : first ≢ 1 → Refuses (form-of list text) (stop-refusal first (s .at))
     end-open-stuck h = stopped r first (s .at) (stuck-end-open list text (r .content) (r .opened) (s .nodes) (s .at) first (sym told-first) h)
 
-    -- behind the name, compared with that of the innermost open element
-    module _ {lines : List ℕ} (listing : Listing list lines) (letter-there : first ≡ 1) (end : ℕ) (skipped : end ≡ s .at + run (class-within 1 3) (drop (s .at) text)) where
-      name-is : name-at (drop (s .at) text) ≡ take (end - s .at) (drop (s .at) text)
-      name-is = let n : end - s .at ≡ run (class-within 1 3) (drop (s .at) text) = omega arith in name-run (drop (s .at) text) ∙ ap (λ (m : ℕ). take m (drop (s .at) text)) (sym n)
+  -- the name, compared with that of the innermost open element
+  module _ {lines : List ℕ} (listing : Listing list lines) (name : List ℕ) (open-name : name ≡ name-by list lines (getD words (s .top) 0 % 65536)) where
+    pub top-named : Yes (is-name name)
+    top-named = rw open-name (named-well listing _ top-tag-some top-tag-listed)
 
-      pub end-other : same-bytes (name-by list lines (getD words (s .top) 0 % 65536)) (take (end - s .at) (drop (s .at) text)) ≡ false → Refuses (form-of list text) (OtherName (s .at))
-      unfolding said-refusal
-      end-other e =
-          refused r
-          (other-name list text (r .content) (r .opened) (s .nodes) (s .at) (sym told-first ∙ letter-there)
-          (λ z. tag-other listing _ top-tag-some top-tag-listed _ e (ap (tag-of list) (sym name-is) ∙ z ∙ sym (top .tag-is))))
-          refl
+    pub end-other : same-bytes name (name-at (drop (s .at) text)) ≡ false → first-class (drop (s .at) text) ≡ 1 → Refuses (form-of list text) (OtherName (s .at))
+    unfolding said-refusal
+    end-other e letter-there =
+        refused r
+        (other-name list text (r .content) (r .opened) (s .nodes) (s .at) letter-there (λ z. tag-other listing _ top-tag-some top-tag-listed _ (rw open-name at e) (z ∙ sym (top .tag-is))))
+        refl
 
-      module _ (own : same-bytes (name-by list lines (getD words (s .top) 0 % 65536)) (take (end - s .at) (drop (s .at) text)) ≡ true) where
-        named : ReadsAt list text words end-gap (at-offset s end)
-        named =
-            rw skipped (reads-on r (λ os. end-gap) _ (run-within (class-within 1 3) text (s .at) (r .within))
-            (own-name list text (r .content) (r .opened) (s .nodes) (s .at) (sym told-first ∙ letter-there)
-            (ap (tag-of list) name-is ∙ tag-named listing _ top-tag-some top-tag-listed _ own ∙ top .tag-is)))
+    module _ (own : same-bytes name (name-at (drop (s .at) text)) ≡ true) (end : ℕ) (ends : end ≡ s .at + length name) where
+      name-there-is : name ≡ name-at (drop (s .at) text)
+      name-there-is = bytes-same _ _ own
 
-        module _ (at class : ℕ) (past : at ≡ end + run (class-within 0 0) (drop end text)) (told : class ≡ first-class (drop at text)) where
-          behind-name : ReadsAt list text words end-gap (at-offset s at)
-          behind-name = past-white named at past end-gap-waits
+      named : ReadsAt list text words end-gap (at-offset s end)
+      named =
+          let skipped : end ≡ s .at + run (class-within 1 3) (drop (s .at) text) = ends ∙ ap (λ (l : List ℕ). s .at + length l) name-there-is ∙ ap (λ (m : ℕ). s .at + m) (name-length (drop (s .at) text)) in
+          rw skipped (reads-on r (λ os. end-gap) _ (run-within (class-within 1 3) text (s .at) (r .within))
+          (own-name list text (r .content) (r .opened) (s .nodes) (s .at) (name-first _ (rw name-there-is at top-named))
+          (tag-named listing _ top-tag-some top-tag-listed _ (rw open-name at own) ∙ top .tag-is)))
 
-          pub end-gap-stuck : class ≢ 5 → Refuses (form-of list text) (stop-refusal class at)
-          end-gap-stuck h =
-              stopped behind-name class at (stuck-end-gap list text (behind-name .content) (behind-name .opened) (s .nodes) at class (sym told) (no-white-left named at past class told) h)
+      pub own-within : end ≤ length text
+      own-within = named .within
 
-          pub end-closes : class ≡ 5 → Reads list text (closed-words words s) outside (closed-scan words s (at + 1))
-          end-closes e =
-              closes behind-name deep (at + 1) (omega (arith, byte-there text at (omega arith)))
-              (end-ends list text (behind-name .content) (behind-name .opened) (s .nodes) at (sym told ∙ e))
+      module _ (at class : ℕ) (past : at ≡ end + run (class-within 0 0) (drop end text)) (told : class ≡ first-class (drop at text)) where
+        behind-name : ReadsAt list text words end-gap (at-offset s at)
+        behind-name = past-white named at past end-gap-waits
+
+        pub end-gap-stuck : class ≢ 5 → Refuses (form-of list text) (stop-refusal class at)
+        end-gap-stuck h =
+            stopped behind-name class at (stuck-end-gap list text (behind-name .content) (behind-name .opened) (s .nodes) at class (sym told) (no-white-left named at past class told) h)
+
+        pub end-closes : class ≡ 5 → Reads list text (closed-words words s) outside (closed-scan words s (at + 1))
+        end-closes e =
+            closes behind-name deep (at + 1) (omega (arith, byte-there text at (omega arith)))
+            (end-ends list text (behind-name .content) (behind-name .opened) (s .nodes) at (sym told ∙ e))
 
 -- ---- a text
 

@@ -8,13 +8,15 @@ use native.Mathlib.Numerals.{add-one}
 use native.Mathlib.Omega.{arith}
 use lib.Dec.{eqb, leb}
 use lib.ListN.{length, getD, take, drop, drop-of-length-le, length-drop}
-use lib.Seq.{drop-cons, take-suc, getD-drop, drop-drop}
+use lib.Seq.{drop-cons, take-suc, getD-drop, drop-drop, length-take-le}
 use borrow.Author.Tests.{eq-eqb, ne-eqb, lt-leb}
 use Rattle.model.specs.Lists.{every}
-use Rattle.model.specs.Bytes.{Class, white, letter, digit, hyphen, less, greater, slash, other, forbidden, class-number, is, class-of, digit-byte, name-byte, kind-of-text, within}
+use Rattle.model.specs.Bytes.{Class, white, letter, digit, hyphen, less, greater, slash, other, forbidden, class-number, is, class-of, letter-byte, digit-byte, name-byte, is-name, same-bytes, kind-of-text, within}
 use Rattle.model.specs.Text.{name-at, trimmed, text-at}
 use Rattle.model.specs.Written.{text-byte}
-use Rattle.model.proofs.Tests.{Yes, never, eqb-like}
+use Rattle.model.proofs.Tests.{Yes, never, and-yes, or-left, same, eqb-like}
+use Rattle.model.proofs.ByteLaws.{name-cons}
+use Rattle.model.proofs.NameLaws.{bytes-same}
 use Rattle.model.proofs.ListLaws.{every-cons}
 use Rattle.reader.specs.Runs.{run, class-within, first-class, trim}
 
@@ -183,6 +185,74 @@ name-run (b ∷ s) = rw (name-classes (class-of b)) (by (within 1 3 (class-numbe
     by : (t : Bool) → name-at s ≡ take (run (class-within 1 3) s) s → cond t (b ∷ name-at s) [] ≡ take (cond t (suc (run (class-within 1 3) s)) 0) (b ∷ s)
     by true ih = ap (λ (l : List ℕ). b ∷ l) ih
     by false ih = refl
+
+name-byte-by : (b : ℕ) → name-byte b ≡ within 1 3 (class-number (class-of b))
+unfolding name-byte
+name-byte-by b = name-classes (class-of b)
+
+-- a name is there where its bytes are, and no byte behind them goes on with it
+pub named-by : (name s : List ℕ) → Yes (every name-byte name)
+    → same-bytes name (name-at s) ≡ (same-bytes name (take (length name) s) && not (within 1 3 (first-class (drop (length name) s))))
+unfolding same-bytes name-at first-class
+named-by [] [] h = refl
+named-by [] (b ∷ s) h = rw (name-byte-by b) (by (within 1 3 (class-number (class-of b))))
+  where
+    by : (t : Bool) → same-bytes [] (cond t (b ∷ name-at s) []) ≡ not t
+    by true = refl
+    by false = refl
+named-by (a ∷ name) [] h = refl
+named-by (a ∷ name) (b ∷ s) h = let (u, v) = every-cons name-byte a name h in by (eqb a b) refl u (named-by name s v)
+  where
+    by : (t : Bool) → eqb a b ≡ t → Yes (name-byte a)
+        → same-bytes name (name-at s) ≡ (same-bytes name (take (length name) s) && not (within 1 3 (first-class (drop (length name) s))))
+        → same-bytes (a ∷ name) (cond (name-byte b) (b ∷ name-at s) []) ≡ ((t && same-bytes name (take (length name) s)) && not (within 1 3 (first-class (drop (length name) s))))
+    by true e u ih = let is-b : Yes (name-byte b) = ap name-byte (sym (same a b e)) ∙ u in rw (is-b, e) ih
+    by false e u ih = other (name-byte b)
+      where
+        other : (t : Bool) → same-bytes (a ∷ name) (cond t (b ∷ name-at s) []) ≡ false
+        other true = rw e
+        other false = refl
+
+-- the bytes of a name, and its first
+pub name-bytes : (name : List ℕ) → Yes (is-name name) → Yes (every name-byte name)
+unfolding is-name letter-byte name-byte every
+name-bytes [] h = never h
+name-bytes (b ∷ name) h = let (u, v) = name-cons b name h in and-yes (or-left _ u) v
+
+pub name-first : (s : List ℕ) → Yes (is-name (name-at s)) → first-class s ≡ 1
+unfolding name-at is-name first-class letter-byte is class-number
+name-first [] h = never h
+name-first (b ∷ s) h = by (name-byte b) h
+  where
+    by : (t : Bool) → Yes (is-name (cond t (b ∷ name-at s) [])) → class-number (class-of b) ≡ 1
+    by true h = same _ _ (name-cons b (name-at s) h .0)
+    by false h = never h
+
+pub name-length : (s : List ℕ) → length (name-at s) ≡ run (class-within 1 3) s
+name-length s = rw (name-run s) (length-take-le _ s (run-most (class-within 1 3) s))
+
+-- a name compared with the one that begins at an offset: too few bytes are left, the bytes differ, or the byte behind them decides
+module _ (text : List ℕ) (at : ℕ) (name : List ℕ) where
+  pub named-short : length text - at < length name → same-bytes name (name-at (drop at text)) ≡ false
+  named-short h = by (same-bytes name (name-at (drop at text))) refl
+    where
+      by : (t : Bool) → same-bytes name (name-at (drop at text)) ≡ t → t ≡ false
+      by true e =
+          let n : length name ≡ length (name-at (drop at text)) = ap (λ (l : List ℕ). length l) (bytes-same _ _ e) in
+          absurd (omega (arith, name-length (drop at text), run-most (class-within 1 3) (drop at text), length-drop at text))
+      by false e = refl
+
+  module _ (well : Yes (is-name name)) {flag : Bool} (compared : flag ≡ same-bytes name (take (at + length name - at) (drop at text))) where
+    named-here : same-bytes name (name-at (drop at text)) ≡ (flag && not (within 1 3 (first-class (drop (at + length name) text))))
+    named-here =
+        let n : at + length name - at ≡ length name = omega arith in
+        rw (compared, n, ← drop-drop (length name) at text) (named-by name (drop at text) (name-bytes name well))
+
+    pub named-else : flag ≡ false → same-bytes name (name-at (drop at text)) ≡ false
+    named-else e = rw e at named-here
+
+    pub named-so : flag ≡ true → (k : ℕ) → k ≡ first-class (drop (at + length name) text) → same-bytes name (name-at (drop at text)) ≡ not (leb 1 k && leb k 3)
+    named-so e k told = rw told (rw e at named-here)
 
 -- ---- texts
 

@@ -7,15 +7,16 @@ use model::Answer;
 use model::Refusal;
 ghost use mathlib.Core.List.{_++_};
 ghost use mathlib.Core.Path.{_≡_};
+ghost use mathlib.Core.Bool.{true};
 ghost use Prim.Native.Nat.{_+_, _-_, _*_, _≤_, _<_};
 ghost use lib.ListN.{length, take, drop};
 ghost use lib.Seq.{sets};
 ghost use Rattle.model.specs.Answers.{said, passes};
-ghost use Rattle.model.specs.Bytes.{class-number, class-of, kind-of-text};
+ghost use Rattle.model.specs.Bytes.{is-name, class-number, class-of, same-bytes, kind-of-text};
 ghost use Rattle.model.specs.Calls.{read-said, read-tree};
 ghost use Rattle.model.specs.Lists.{every};
 ghost use Rattle.model.specs.Names.{names-of, tag-of};
-ghost use Rattle.model.specs.Text.{blank, start-gap, end-open};
+ghost use Rattle.model.specs.Text.{name-at, blank, start-gap, end-open};
 ghost use Rattle.model.specs.Written.{text-byte};
 ghost use Rattle.chars.specs.Table.{table};
 ghost use Rattle.names.specs.Lines.{line-count, Indexed};
@@ -312,7 +313,7 @@ fn start_tag_end(classes: &Classes, text: &[u8], s: Scan, words: &mut Words) -> 
     Step::On(close(s, at + 2, words))
 }
 
-// An end tag, from behind its </ on.
+// An end tag, from behind its </ on. Its name is compared with the open element's before it is known where it ends.
 fn end_tag(
     classes: &Classes,
     list: &[u8],
@@ -327,16 +328,17 @@ fn end_tag(
     ensures { λ r. ⌜ Goes (now (list .entry)) (now (text .entry)) (now (words .exit)) (s .at) r ⌝ }
 {
     let from = s.at;
-    let first = class_at(classes, text, from);
-    if first != chars::LETTER {
-        return Step::Refused(refusal_at(first, from));
-    }
-    let end = skip(classes, text, from, chars::LETTER, chars::HYPHEN);
     let innermost = s.top;
     let tag = (words[innermost] % FIELD) as usize;
-    if !names::same_bytes(names::name_of(list, lines, tag), &text[from..end]) {
+    let name = names::name_of(list, lines, tag);
+    if !named(classes, text, from, name) {
+        let first = class_at(classes, text, from);
+        if first != chars::LETTER {
+            return Step::Refused(refusal_at(first, from));
+        }
         return Step::Refused(Refusal::OtherName(from));
     }
+    let end = from + name.len();
     let seen = past_white(classes, text, end);
     let at = seen.at;
     let class = seen.class;
@@ -533,6 +535,24 @@ fn kind_of(classes: &Classes, bytes: &[u8]) -> u64
 }
 
 // ---- names
+
+// Whether the name that begins at an offset, which goes on as far as it can, is the one that is given.
+fn named(classes: &Classes, text: &[u8], at: usize, name: &[u8]) -> bool
+    requires { ⌜ now classes ≡ table ⌝ }
+    requires { ⌜ at ≤ length (now text) ⌝ }
+    requires { ⌜ is-name (now name) ≡ true ⌝ }
+    ensures { λ r. ⌜ r ≡ same-bytes (now (name .entry)) (name-at (drop at (now (text .entry)))) ⌝ }
+{
+    if text.len() - at < name.len() {
+        return false;
+    }
+    let end = at + name.len();
+    if !names::same_bytes(name, &text[at..end]) {
+        return false;
+    }
+    let behind = class_at(classes, text, end);
+    !((chars::LETTER <= behind) & (behind <= chars::HYPHEN))
+}
 
 // The tag of a name, 0 where it is not listed.
 fn find(list: &[u8], lines: &PerName, heads: &PerBucket, nexts: &PerName, name: &[u8]) -> usize

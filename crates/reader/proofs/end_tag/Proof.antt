@@ -1,9 +1,9 @@
 -- `reader::end_tag` meets its contract.
+use mathlib.Core.Path.{refl, sym, _∙_}
 use native.Mathlib.Omega.{arith}
 use borrow.Author.Tests.{not-true, not-false}
 use borrow.Author.Needs.{needs}
-use Rattle.names.proofs.ChainLaws.{compared}
-use Rattle.reader.proofs.Readings.{top-inside, end-open-stuck, end-other, end-gap-stuck, end-closes}
+use Rattle.reader.proofs.Readings.{top-inside, top-named, own-within, end-open-stuck, end-other, end-gap-stuck, end-closes}
 use Rattle.reader.proofs.end_tag.Statement.{statement}
 use Rattle.reader.proofs.end_tag.Tie as tie
 
@@ -11,21 +11,18 @@ pub end-tag-spec : {M : Type 1} → statement M
 end-tag-spec =
     tie.close
     (tie.spec
+    (λ c. omega (arith, top-inside (c .before .before .pre .1 .1 .1) (c .before .before .pre .1 .1 .0), c .before .before .pre .1 .1 .1 .few))
+    (λ c. omega (arith, top-inside (c .before .before .pre .1 .1 .1) (c .before .before .pre .1 .1 .0), c .before .before .pre .1 .1 .1 .few))
+    (λ c κs. search needs)
+    (λ c κs. (c .before .before .before .before .pre .0, (c .before .before .before .before .pre .1 .1 .1 .within, top-named (c .before .before .before .before .pre .1 .1 .1) (c .before .before .before .before .pre .1 .1 .0) (c .before .before .before .before .pre .1 .0) _ (c .name-of .ensures))))
     (λ c κs. search needs)
     (λ c κs. search needs)
-    (λ c. rw (c .refusal-at .ensures) (end-open-stuck (c .before .before .before .before .before .pre .1 .1 .1) (c .before .before .before .before .before .pre .1 .1 .0) _ (c .before .before .class-at .ensures) (c .before .if1 .taken)))
+    (λ c. rw (c .refusal-at .ensures) (end-open-stuck (c .before .before .before .before .before .before .before .before .before .pre .1 .1 .1) (c .before .before .before .before .before .before .before .before .before .pre .1 .1 .0) _ (c .before .before .class-at .ensures) (c .before .if2 .taken)))
+    (λ c. end-other (c .before .before .before .before .before .before .before .before .pre .1 .1 .1) (c .before .before .before .before .before .before .before .before .pre .1 .1 .0) (c .before .before .before .before .before .before .before .before .pre .1 .0) _ (c .before .before .before .before .name-of .ensures) (sym (c .before .before .before .named .ensures) ∙ not-true _ (c .before .before .if1 .taken)) (sym (c .before .class-at .ensures) ∙ c .if2 .left))
+    (λ c. omega (arith, c .before .before .before .before .before .before .pre .1 .1 .1 .short, own-within (c .before .before .before .before .before .before .pre .1 .1 .1) (c .before .before .before .before .before .before .pre .1 .1 .0) (c .before .before .before .before .before .before .pre .1 .0) _ (c .before .before .name-of .ensures) (sym (c .before .named .ensures) ∙ not-false _ (c .if1 .left)) _ refl))
+    (λ c κs. (c .before .before .before .before .before .before .pre .0, own-within (c .before .before .before .before .before .before .pre .1 .1 .1) (c .before .before .before .before .before .before .pre .1 .1 .0) (c .before .before .before .before .before .before .pre .1 .0) _ (c .before .before .name-of .ensures) (sym (c .before .named .ensures) ∙ not-false _ (c .if1 .left)) _ refl))
     (λ c κs. search needs)
-    (λ c. omega (arith, top-inside (c .before .before .before .before .before .pre .1 .1 .1) (c .before .before .before .before .before .pre .1 .1 .0), c .before .before .before .before .before .pre .1 .1 .1 .few))
-    (λ c. omega (arith, top-inside (c .before .before .before .before .before .pre .1 .1 .1) (c .before .before .before .before .before .pre .1 .1 .0), c .before .before .before .before .before .pre .1 .1 .1 .few))
-    (λ c κs. search needs)
-    (λ c. search needs)
-    (λ c. search needs)
-    (λ c. omega (arith, c .before .before .skip .ensures .1))
-    (λ c κs. search needs)
-    (λ c. end-other (c .before .before .before .before .before .before .before .before .before .before .pre .1 .1 .1) (c .before .before .before .before .before .before .before .before .before .before .pre .1 .1 .0) _ (c .before .before .before .before .before .before .before .class-at .ensures) (c .before .before .before .before .before .before .before .before .before .before .pre .1 .0) (c .before .before .before .before .before .before .if1 .left) _ (c .before .before .before .before .before .skip .ensures .0) (compared _ (c .before .before .before .name-of .ensures) (c .before .same-bytes .ensures) (not-true _ (c .if2 .taken))))
-    (λ c κs. search needs)
-    (λ c κs. search needs)
-    (λ c. rw (c .refusal-at2 .ensures) (end-gap-stuck (c .before .before .before .before .before .before .before .before .before .before .before .before .before .pre .1 .1 .1) (c .before .before .before .before .before .before .before .before .before .before .before .before .before .pre .1 .1 .0) _ (c .before .before .before .before .before .before .before .before .before .before .class-at .ensures) (c .before .before .before .before .before .before .before .before .before .before .before .before .before .pre .1 .0) (c .before .before .before .before .before .before .before .before .before .if1 .left) _ (c .before .before .before .before .before .before .before .before .skip .ensures .0) (compared _ (c .before .before .before .before .before .before .name-of .ensures) (c .before .before .before .before .same-bytes .ensures) (not-false _ (c .before .before .before .if2 .left))) _ _ (c .before .before .past-white .ensures .0) (c .before .before .past-white .ensures .1 .1) (c .before .if3 .taken)))
-    (λ c. omega (arith, c .before .past-white .ensures .1 .0))
-    (λ c κs. (top-inside (c .before .before .before .before .before .before .before .before .before .before .before .before .before .pre .1 .1 .1) (c .before .before .before .before .before .before .before .before .before .before .before .before .before .pre .1 .1 .0), c .before .before .before .before .before .before .before .before .before .before .before .before .before .pre .1 .1 .1 .few, c .before .before .before .before .before .before .before .before .before .before .before .before .before .pre .1 .1 .0))
-    (λ c. rw (c .close .ensures .0, c .close .ensures .1) (omega (arith, c .before .before .before .before .before .before .before .before .before .skip .ensures .1, c .before .before .before .past-white .ensures .1 .0), end-closes (c .before .before .before .before .before .before .before .before .before .before .before .before .before .before .pre .1 .1 .1) (c .before .before .before .before .before .before .before .before .before .before .before .before .before .before .pre .1 .1 .0) _ (c .before .before .before .before .before .before .before .before .before .before .before .class-at .ensures) (c .before .before .before .before .before .before .before .before .before .before .before .before .before .before .pre .1 .0) (c .before .before .before .before .before .before .before .before .before .before .if1 .left) _ (c .before .before .before .before .before .before .before .before .before .skip .ensures .0) (compared _ (c .before .before .before .before .before .before .before .name-of .ensures) (c .before .before .before .before .before .same-bytes .ensures) (not-false _ (c .before .before .before .before .if2 .left))) _ _ (c .before .before .before .past-white .ensures .0) (c .before .before .before .past-white .ensures .1 .1) (c .before .before .if3 .left))))
+    (λ c. rw (c .refusal-at2 .ensures) (end-gap-stuck (c .before .before .before .before .before .before .before .before .before .pre .1 .1 .1) (c .before .before .before .before .before .before .before .before .before .pre .1 .1 .0) (c .before .before .before .before .before .before .before .before .before .pre .1 .0) _ (c .before .before .before .before .before .name-of .ensures) (sym (c .before .before .before .before .named .ensures) ∙ not-false _ (c .before .before .before .if1 .left)) _ refl _ _ (c .before .before .past-white .ensures .0) (c .before .before .past-white .ensures .1 .1) (c .before .if3 .taken)))
+    (λ c. omega (arith, c .before .before .before .before .before .before .before .before .pre .1 .1 .1 .short, c .before .past-white .ensures .1 .0))
+    (λ c κs. (top-inside (c .before .before .before .before .before .before .before .before .before .pre .1 .1 .1) (c .before .before .before .before .before .before .before .before .before .pre .1 .1 .0), c .before .before .before .before .before .before .before .before .before .pre .1 .1 .1 .few, c .before .before .before .before .before .before .before .before .before .pre .1 .1 .0))
+    (λ c. rw (c .close .ensures .0, c .close .ensures .1) (omega (arith, c .before .before .before .past-white .ensures .1 .0), end-closes (c .before .before .before .before .before .before .before .before .before .before .pre .1 .1 .1) (c .before .before .before .before .before .before .before .before .before .before .pre .1 .1 .0) (c .before .before .before .before .before .before .before .before .before .before .pre .1 .0) _ (c .before .before .before .before .before .before .name-of .ensures) (sym (c .before .before .before .before .before .named .ensures) ∙ not-false _ (c .before .before .before .before .if1 .left)) _ refl _ _ (c .before .before .before .past-white .ensures .0) (c .before .before .before .past-white .ensures .1 .1) (c .before .before .if3 .left))))
