@@ -6,6 +6,7 @@ use mathlib.Core.List.{List, [], _∷_, _++_}
 use Prim.Native.Nat.{ℕ, zero, suc, _+_, _-_, _≤_, _<_}
 use native.Mathlib.Numerals.{add-one}
 use native.Mathlib.Omega.{arith}
+use native.Mathlib.Decide.{decLt}
 use lib.Dec.{eqb, leb}
 use lib.ListN.{length, getD, take, drop, drop-of-length-le, length-drop}
 use lib.Seq.{drop-cons, take-suc, getD-drop, drop-drop, length-take-le}
@@ -80,6 +81,14 @@ module _ (test : ℕ → Bool) (s : List ℕ) (i : ℕ) {x : ℕ} (ends : i + ru
   pub run-ends : length s ≤ i → i ≡ x
   unfolding run
   run-ends h = let z : run test (drop i s) ≡ 0 = rw (drop-of-length-le s h) in omega arith
+
+  -- at the end, or before it where the run is known to end
+  pub run-done : i ≤ length s → (i < length s → i ≡ x) → i ≡ x
+  run-done within ended = by (decLt i (length s))
+    where
+      by : Dec (i < length s) → i ≡ x
+      by (yes h) = ended h
+      by (no h) = run-ends (omega arith)
 
   -- past so many bytes that all pass the test
   pub run-all : (m : ℕ) → i + m ≤ length s → Yes (every test (take m (drop i s))) → i + m + run test (drop (i + m) s) ≡ x

@@ -465,23 +465,35 @@ fn text_end(classes: &Classes, text: &[u8], at: usize) -> usize
     ensures is { λ r. ⌜ r ≡ at + run text-byte (drop at (now (text .entry))) ⌝ }
     ensures within { λ r. ⌜ (at ≤ r) × (r ≤ length (now (text .entry))) ⌝ }
 {
-    let mut i = at;
+    // Most texts are short, and end before a block does.
+    let near = at + BLOCK;
+    if text.len() < near {
+        return text_bytes(classes, text, at, text.len());
+    }
+    let first = text_bytes(classes, text, at, near);
+    if first < near {
+        return first;
+    }
+    let mut i = first;
     while i + BLOCK <= text.len() {
         if !text_block(text, i) {
-            return text_tail(classes, text, i);
+            return text_bytes(classes, text, i, text.len());
         }
         i += BLOCK;
     }
-    text_tail(classes, text, i)
+    text_bytes(classes, text, i, text.len())
 }
 
-// The same, byte by byte.
-fn text_tail(classes: &Classes, text: &[u8], at: usize) -> usize
+// As far as the text that begins at an offset goes, byte by byte, but at most to `end`.
+fn text_bytes(classes: &Classes, text: &[u8], at: usize, end: usize) -> usize
     requires { ⌜ now classes ≡ table ⌝ }
-    ensures { λ r. ⌜ r ≡ at + run text-byte (drop at (now (text .entry))) ⌝ }
+    requires { ⌜ (at ≤ end) × (end ≤ length (now text)) ⌝ }
+    ensures within { λ r. ⌜ (at ≤ r) × (r ≤ end) ⌝ }
+    ensures on { λ r. ⌜ r + run text-byte (drop r (now (text .entry))) ≡ at + run text-byte (drop at (now (text .entry))) ⌝ }
+    ensures ended { λ r. ⌜ (r < end → r ≡ at + run text-byte (drop at (now (text .entry)))) ⌝ }
 {
     let mut i = at;
-    while i < text.len() {
+    while i < end {
         let class = class_in(classes, text[i]);
         if !((class != chars::LESS) & (class != chars::GREATER) & (class != chars::FORBIDDEN)) {
             return i;
