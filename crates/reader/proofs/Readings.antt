@@ -18,7 +18,7 @@ use Rattle.model.specs.Names.{tag-of}
 use Rattle.model.specs.Text.{Place, before, root-open, blank, tag-open, start-gap, start-slash, end-open, end-gap, after, Open, innermost, name-at, text-at, behind, text-node, outside, closed, form-of}
 use Rattle.model.specs.Written.{text-byte}
 use Rattle.model.specs.declared.Refusal.{Refusal}
-use Rattle.model.specs.declared.Refusal.the-variants.{ForbiddenByte, Syntax, UnknownName, OtherName, Depth, ManyNodes}
+use Rattle.model.specs.declared.Refusal.the-variants.{UnknownName, OtherName, Depth, ManyNodes}
 use Rattle.model.proofs.Scan.{scan-is}
 use Rattle.model.proofs.Tests.{Yes, never, or-left, or-right, or-cases, same, eqb-yes}
 use Rattle.model.proofs.NameLaws.{bytes-same, tag-few}
@@ -26,14 +26,13 @@ use Rattle.model.proofs.RoundScan.{state, an-open}
 use Rattle.names.specs.Lines.{line-count, name-by}
 use Rattle.reader.specs.Listing.{Listing}
 use Rattle.reader.specs.Packed.{packed, unpacked, closed-words, closed-scan, Holds, outermost, inside}
-use Rattle.reader.specs.Reading.{at-offset, Reads, ReadsAt, AtStartTag, InContent, AtToken, Solid, Refuses, stop-refusal, Goes, Whole}
+use Rattle.reader.specs.Reading.{at-offset, Reads, ReadsAt, AtStartTag, InContent, AtToken, Solid, Refuses, stop-number, refusal-by, on-step, refused-step, After, Goes, Whole}
 use Rattle.reader.specs.Runs.{run, class-within, first-class, trim}
 use Rattle.reader.specs.declared.Scan.{Scan}
 use Rattle.reader.specs.declared.Step.{Step}
-use Rattle.reader.specs.declared.Step.the-variants.{On, Refused}
 use Rattle.reader.proofs.RunLaws.{byte-there, no-white-run, run-within, name-run, name-first, name-length, text-run, kind-few}
 use Rattle.reader.proofs.TagLaws.{named-well, tag-named, tag-other}
-use Rattle.reader.proofs.Steps.{stop-number, onward}
+use Rattle.reader.proofs.Steps.{onward}
 use Rattle.reader.proofs.Tokens.{Waits, before-waits, blank-waits, start-gap-waits, end-gap-waits, after-waits, Leads, at-root, in-content, white-run, white-left, less-on, too-deep, too-many, unknown, opened, start-ends, slash-on, empty-ends, end-on, end-ends, other-name, own-name, text-end, text-too-many, text-ends, text-broken, stuck-before, stuck-root-open, stuck-tag-open, stuck-blank, stuck-start-gap, stuck-start-slash, stuck-end-open, stuck-end-gap, stuck-after, all-read}
 use Rattle.reader.proofs.PackLaws.{holds-none, holds-all, packed-tag, unpacked-packed, holds-open, holds-text, open-tag, top-read, parent-above, holds-close}
 
@@ -47,11 +46,11 @@ module _ {list text words : List ℕ} {place : List Open → Place} {s : Scan} (
   pub refused : {n i : ℕ} {x : Refusal} → rest-of ≡ refuses n i → said-refusal x ≡ refusal n i → Refuses (form-of list text) x
   refused {n} {i} e f = record { number = n; place = i; is = r .goes ∙ e; says = f }
 
-  pub stopped : (k at : ℕ) → rest-of ≡ refuses (stop-number k) at → Refuses (form-of list text) (stop-refusal k at)
+  pub stopped : (k at : ℕ) → rest-of ≡ refuses (stop-number k) at → Refuses (form-of list text) (refusal-by (stop-number k) at)
   unfolding said-refusal
   stopped k at e = by (eqb k 8) (r .goes ∙ e)
     where
-      by : (t : Bool) → form-of list text ≡ refuses (cond t 2 3) at → Refuses (form-of list text) (cond t (ForbiddenByte at) (Syntax at))
+      by : (t : Bool) → form-of list text ≡ refuses (cond t 2 3) at → Refuses (form-of list text) (refusal-by (cond t 2 3) at)
       by true e = record { number = 2; place = at; is = e; says = refl }
       by false e = record { number = 3; place = at; is = e; says = refl }
 
@@ -69,6 +68,24 @@ module _ {list text words : List ℕ} {place : List Open → Place} {s : Scan} (
     short = r .short;
     room = r .room;
   }
+
+-- a step on, and one that is refused: with some number, or by a class
+module _ {form : Checked Document} {So : Scan → Type 0} where
+  pub after-on : {s : Scan} → So s → After form So (on-step s)
+  after-on so = record { on = λ e. so; stopped = λ ne. absurd (ne refl) }
+
+  pub after-refused : {number at : ℕ} → number ≢ 0 → Refuses form (refusal-by number at) → After form So (refused-step number at)
+  after-refused some r = record { on = λ e. absurd (some e); stopped = λ ne. r }
+
+stop-some : (class : ℕ) → stop-number class ≢ 0
+stop-some class = by (eqb class 8)
+  where
+    by : (t : Bool) → _≢_ {A = ℕ} (cond t 2 3) 0
+    by true = λ e. absurd (omega arith)
+    by false = λ e. absurd (omega arith)
+
+pub after-stopped : {form : Checked Document} {So : Scan → Type 0} (class : ℕ) {at : ℕ} → Refuses form (refusal-by (stop-number class) at) → After form So (refused-step (stop-number class) at)
+after-stopped class r = after-refused (stop-some class) r
 
 -- in content, an element is open
 outside-some : (os : List Open) → 1 ≤ length os → outside os ≡ blank
@@ -131,7 +148,7 @@ module _ {list text words : List ℕ} {s : Scan} (r : ReadsAt list text words st
   gap-ends e =
       reads-outside deep (reads-on gap (λ os. blank) (at + 1) (omega (arith, byte-there text at (omega arith))) (start-ends list text (gap .content) (gap .opened) (s .nodes) at (sym told ∙ e)))
 
-  pub gap-stuck : class ≢ 5 → class ≢ 6 → Refuses (form-of list text) (stop-refusal class at)
+  pub gap-stuck : class ≢ 5 → class ≢ 6 → Refuses (form-of list text) (refusal-by (stop-number class) at)
   gap-stuck a b = stopped gap class at (stuck-start-gap list text (gap .content) (gap .opened) (s .nodes) at class (sym told) (no-white-left r at skipped class told) a b)
 
   -- and behind the / of an empty one
@@ -139,7 +156,7 @@ module _ {list text words : List ℕ} {s : Scan} (r : ReadsAt list text words st
     slash-next : rest-of gap ≡ onward list text (state start-slash (gap .content) (gap .opened) (s .nodes)) (at + 1)
     slash-next = slash-on list text (gap .content) (gap .opened) (s .nodes) at (sym told ∙ slash-there)
 
-    pub slash-stuck : last ≢ 5 → Refuses (form-of list text) (stop-refusal last (at + 1))
+    pub slash-stuck : last ≢ 5 → Refuses (form-of list text) (refusal-by (stop-number last) (at + 1))
     slash-stuck h = stopped gap last (at + 1) (slash-next ∙ stuck-start-slash list text (gap .content) (gap .opened) (s .nodes) (at + 1) last (sym told-last) h)
 
     pub slash-ends : last ≡ 5 → Reads list text (closed-words words s) outside (closed-scan words s (at + 2))
@@ -241,7 +258,7 @@ module _ {list text words : List ℕ} {s : Scan} (r : ReadsAt list text words en
   top-tag-listed = rw (top .tag-is) (top .listed)
 
   module _ (first : ℕ) (told-first : first ≡ first-class (drop (s .at) text)) where
-    pub end-open-stuck : first ≢ 1 → Refuses (form-of list text) (stop-refusal first (s .at))
+    pub end-open-stuck : first ≢ 1 → Refuses (form-of list text) (refusal-by (stop-number first) (s .at))
     end-open-stuck h = stopped r first (s .at) (stuck-end-open list text (r .content) (r .opened) (s .nodes) (s .at) first (sym told-first) h)
 
   -- the name, compared with that of the innermost open element
@@ -274,7 +291,7 @@ module _ {list text words : List ℕ} {s : Scan} (r : ReadsAt list text words en
         behind-name : ReadsAt list text words end-gap (at-offset s at)
         behind-name = past-white named at past end-gap-waits
 
-        pub end-gap-stuck : class ≢ 5 → Refuses (form-of list text) (stop-refusal class at)
+        pub end-gap-stuck : class ≢ 5 → Refuses (form-of list text) (refusal-by (stop-number class) at)
         end-gap-stuck h =
             stopped behind-name class at (stuck-end-gap list text (behind-name .content) (behind-name .opened) (s .nodes) at class (sym told) (no-white-left named at past class told) h)
 
@@ -292,7 +309,7 @@ module _ {list text words : List ℕ} {s : Scan} (r : ReadsAt list text words bl
       refused r (text-too-many list text (r .content) (r .opened) (s .nodes) (s .at) _ refl (solid .no-white) (solid .no-less) (solid .no-greater) (solid .allowed) h) refl
 
   module _ (few : s .nodes < 4096) (stop class : ℕ) (stop-is : stop ≡ s .at + run text-byte (drop (s .at) text)) (told : class ≡ first-class (drop stop text)) where
-    pub text-stuck : class ≢ 4 → Refuses (form-of list text) (stop-refusal class stop)
+    pub text-stuck : class ≢ 4 → Refuses (form-of list text) (refusal-by (stop-number class) stop)
     text-stuck h =
         rw stop-is (stopped r class _
         (text-broken list text (r .content) (r .opened) (s .nodes) (s .at) _ refl (solid .no-white) (solid .no-less) (solid .no-greater) (solid .allowed) few class (rw (← stop-is) (sym told)) h))
@@ -362,13 +379,13 @@ module _ {list text words : List ℕ} {s : Scan} (reads : Reads list text words 
         reads-on token-there (λ os. end-open) (at + 2) (omega (arith, byte-there text (at + 1) (omega arith)))
         (end-on list text (token-there .content) (token-there .opened) (s .nodes) at (sym told ∙ less-there) (sym told-next ∙ e))
 
-    pub tag-stuck : next ≢ 1 → next ≢ 6 → Refuses (form-of list text) (stop-refusal next (at + 1))
+    pub tag-stuck : next ≢ 1 → next ≢ 6 → Refuses (form-of list text) (refusal-by (stop-number next) (at + 1))
     tag-stuck a b =
         stopped token-there next (at + 1)
         (less-on list text (token-there .content) (token-there .opened) (s .nodes) in-content at (sym told ∙ less-there) (λ e. a (told-next ∙ e))
         ∙ stuck-tag-open list text (token-there .content) (token-there .opened) (s .nodes) (at + 1) next (sym told-next) a b)
 
-  pub content-stuck : (eqb class 5 || leb 8 class) ≡ true → Refuses (form-of list text) (stop-refusal class at)
+  pub content-stuck : (eqb class 5 || leb 8 class) ≡ true → Refuses (form-of list text) (refusal-by (stop-number class) at)
   content-stuck e = stopped token-there class at (stuck-blank list text (token-there .content) (token-there .opened) (s .nodes) at class (sym told) (by (or-cases (eqb class 5) (leb 8 class) e)))
     where
       by : Yes (eqb class 5) ⊎ Yes (leb 8 class) → (class ≡ 5) ⊎ (8 ≤ class)
@@ -416,8 +433,7 @@ token-within (inr (deep, r)) = (r .within, r .short)
 
 -- a token that begins later begins as late
 pub goes-from : (list text words : List ℕ) {i j : ℕ} (step : Step) → i ≤ j → Goes list text words j step → Goes list text words i step
-goes-from list text words (On s) h (later, r) = (omega arith, r)
-goes-from list text words (Refused x) h r = r
+goes-from list text words step h g = record { on = λ e. (omega (arith, g .on e .0), g .on e .1); stopped = g .stopped }
 
 -- ---- before the root
 
@@ -443,12 +459,12 @@ module _ (list text words : List ℕ) (short : length text ≤ 65535) (room : le
     root-there : ReadsAt list text words before (scan-at at)
     root-there = past-white first-there at skipped before-waits
 
-    pub root-stuck : class ≢ 4 → Refuses (form-of list text) (stop-refusal class at)
+    pub root-stuck : class ≢ 4 → Refuses (form-of list text) (refusal-by (stop-number class) at)
     root-stuck h =
         stopped root-there class at (stuck-before list text (root-there .content) (root-there .opened) 0 at class (sym told) (no-white-left first-there at skipped class told) h)
 
     module _ (less-there : class ≡ 4) (next : ℕ) (told-next : next ≡ first-class (drop (at + 1) text)) where
-      pub root-open-stuck : next ≢ 1 → Refuses (form-of list text) (stop-refusal next (at + 1))
+      pub root-open-stuck : next ≢ 1 → Refuses (form-of list text) (refusal-by (stop-number next) (at + 1))
       root-open-stuck h =
           stopped root-there next (at + 1)
           (less-on list text (root-there .content) (root-there .opened) 0 at-root at (sym told ∙ less-there) (λ e. h (told-next ∙ e))
@@ -472,7 +488,7 @@ module _ {list text words : List ℕ} {s : Scan} (r : Reads list text words outs
   after-there : ReadsAt list text words after (at-offset s at)
   after-there = past-white closed-there at skipped after-waits
 
-  pub after-stuck : (class : ℕ) → class ≡ first-class (drop at text) → at < length text → Refuses (form-of list text) (stop-refusal class at)
+  pub after-stuck : (class : ℕ) → class ≡ first-class (drop at text) → at < length text → Refuses (form-of list text) (refusal-by (stop-number class) at)
   after-stuck class told there =
       stopped after-there class at
       (stuck-after list text (after-there .content) (after-there .opened) (s .nodes) at class (sym told) there (no-white-left closed-there at skipped class told))

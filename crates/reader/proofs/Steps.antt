@@ -21,6 +21,7 @@ use Rattle.model.proofs.ListLaws.{every-∈, ∈-numbers}
 use Rattle.model.proofs.Scan.{scan}
 use Rattle.model.proofs.RoundScan.{state}
 use Rattle.reader.specs.Runs.{run, first-class}
+use Rattle.reader.specs.Reading.{stop-number}
 use Rattle.reader.proofs.RunLaws.{here, byte-there, class-there, class-end}
 
 -- the move of a place for a class's number; none for the end of the text
@@ -86,9 +87,6 @@ stops-at p goods all k few no-good = by (every-∈ (λ k. has goods k || does (m
     by h = rw no-good at h
 
 -- a byte at which a place stops is refused, by 2 or 3; so is the end of the text, but after the root
-abbrev pub stop-number : ℕ → ℕ
-stop-number k = cond (eqb k 8) 2 3
-
 stuck-by : (k : ℕ) (m : Move) (os : List Open) (n tag : ℕ) (rest : List ℕ) (next : Checked Document) (i : ℕ) → Yes (does m stops)
     → cond (eqb (number-by k m os n tag rest) 0) next (refuses (number-by k m os n tag rest) i) ≡ refuses (stop-number k) i
 stuck-by k m os n tag rest next i h = rw h (by (eqb k 8))

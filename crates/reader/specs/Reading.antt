@@ -10,7 +10,7 @@ use Rattle.model.specs.Answers.{said-refusal, refusal, Checked, passes, refuses
 use Rattle.model.specs.Tree.{Document, sizeD, wordsD}
 use Rattle.model.specs.Text.{Place, before, blank, Open, outside, form-of}
 use Rattle.model.specs.declared.Refusal.{Refusal}
-use Rattle.model.specs.declared.Refusal.the-variants.{ForbiddenByte, Syntax}
+use Rattle.model.specs.declared.Refusal.the-variants.{ForbiddenByte, Syntax, UnknownName, OtherName, Depth, ManyNodes}
 use Rattle.model.specs.declared.Answer.{Answer}
 use Rattle.model.specs.declared.Answer.the-variants.{Count, Error}
 use Rattle.model.proofs.Scan.{scan}
@@ -20,7 +20,6 @@ use Rattle.reader.specs.Packed.{all-unpacked, Holds}
 use Rattle.reader.specs.Runs.{first-class}
 use Rattle.reader.specs.declared.Scan.{Scan}
 use Rattle.reader.specs.declared.Step.{Step}
-use Rattle.reader.specs.declared.Step.the-variants.{On, Refused}
 
 -- the scan at another offset
 abbrev pub at-offset : Scan → ℕ → Scan
@@ -72,22 +71,38 @@ pub record Refuses (form : Checked Document) (r : Refusal) : Type 0 where
   pub is : form ≡ refuses number place
   pub says : said-refusal r ≡ refusal number place
 
--- the refusal of a byte, by its class, or the end, that the form can't go on with
-abbrev pub stop-refusal : (class at : ℕ) → Refusal
-stop-refusal class at = cond (eqb class 8) (ForbiddenByte at) (Syntax at)
+-- the refusal with a number that a token is refused with
+abbrev pub refusal-by : (number at : ℕ) → Refusal
+refusal-by number at =
+    cond (eqb number 2) (ForbiddenByte at)
+    (cond (eqb number 4) (UnknownName at)
+    (cond (eqb number 5) (OtherName at)
+    (cond (eqb number 6) (Depth at)
+    (cond (eqb number 7) (ManyNodes at) (Syntax at)))))
 
--- after the white before the root; and so by whatever list and words
-abbrev pub Begun : (list text words : List ℕ) → Step → Type 0
-Begun list text words (On s) = AtStartTag list text words s
-Begun list text words (Refused r) = Refuses (form-of list text) r
+-- the number for a byte, by its class, or the end, that the form can't go on with
+abbrev pub stop-number : ℕ → ℕ
+stop-number class = cond (eqb class 8) 2 3
 
+-- a step on, and a step that is refused
+abbrev pub on-step : Scan → Step
+on-step s = record { refused = 0; scan = s }
+
+abbrev pub refused-step : (number at : ℕ) → Step
+refused-step number at = record { refused = number; scan = record { at = at; top = 0; depth = 0; nodes = 0 } }
+
+-- after a step the text is read so, or it is refused
+pub record After (form : Checked Document) (So : Scan → Type 0) (step : Step) : Type 0 where
+  pub on : step .refused ≡ 0 → So (step .scan)
+  pub stopped : step .refused ≢ 0 → Refuses form (refusal-by (step .refused) (step .scan .at))
+
+-- after the white before the root, by whatever list and words
 abbrev pub Begins : (text : List ℕ) → Step → Type 0
-Begins text step = (list words : List ℕ) → length words ≡ 4096 → Begun list text words step
+Begins text step = (list words : List ℕ) → length words ≡ 4096 → After (form-of list text) (AtStartTag list text words) step
 
 -- After a token that begins at offset i or behind it: in content, or after the root, and further on; or refused.
 abbrev pub Goes : (list text words : List ℕ) (i : ℕ) → Step → Type 0
-Goes list text words i (On s) = (i < s .at) × Reads list text words outside s
-Goes list text words i (Refused r) = Refuses (form-of list text) r
+Goes list text words i step = After (form-of list text) (λ s. (i < s .at) × Reads list text words outside s) step
 
 -- where the text is read up to a place, by whatever list, a token goes so
 abbrev pub GoesFrom : Place → (text words then : List ℕ) → Scan → Step → Type 0

@@ -23,7 +23,7 @@ ghost use Rattle.names.specs.Lines.{line-count, Indexed};
 ghost use Rattle.names.specs.Chains.{Chained};
 ghost use Rattle.reader.specs.Listing.{Listing};
 ghost use Rattle.reader.specs.Packed.{packed, unpacked, all-unpacked, closed-words, closed-scan};
-ghost use Rattle.reader.specs.Reading.{ReadsAt, AtStartTag, AtToken, Solid, Begins, Goes, GoesFrom, Scanned, Ends, at-offset, stop-refusal};
+ghost use Rattle.reader.specs.Reading.{ReadsAt, AtStartTag, AtToken, Solid, Begins, Goes, GoesFrom, Scanned, Ends, at-offset, stop-number, refusal-by, on-step, refused-step};
 ghost use Rattle.reader.specs.Runs.{run, class-within, first-class, trim};
 
 // A text has at most so many bytes.
@@ -46,6 +46,21 @@ const BLOCK: usize = 16;
 
 // Each field of a node's word has so many values.
 const FIELD: u64 = 65536;
+
+// No refusal, and the numbers of those that a token gives.
+const NONE: usize = 0;
+
+const FORBIDDEN_BYTE: usize = 2;
+
+const SYNTAX: usize = 3;
+
+const UNKNOWN_NAME: usize = 4;
+
+const OTHER_NAME: usize = 5;
+
+const TOO_DEEP: usize = 6;
+
+const MANY_NODES: usize = 7;
 
 // The class of each byte value.
 type Classes = [u8; 256];
@@ -74,10 +89,11 @@ struct Seen {
     class: u8,
 }
 
-// Behind a token the text goes on, or it is refused.
-enum Step {
-    On(Scan),
-    Refused(Refusal),
+// Behind a token the text goes on, or it is refused: then `refused` is the number of the refusal, and the scan is at its place. This
+// is no enum, since one is written to memory and read again for each token.
+struct Step {
+    refused: usize,
+    scan: Scan,
 }
 
 // The number of nodes, whose words go to the front of the tree; or the first of the refusals 8, 1, 2 to 7 and 22, which leaves the
@@ -129,10 +145,19 @@ fn scan_form(list: &[u8], text: &[u8], words: &mut Words) -> Answer
     let mut nexts = [0usize; names::MOST_NAMES + 1];
     chain(list, &lines, count, &mut heads, &mut nexts);
     let first = root(&classes, text);
-    match first {
-        Step::Refused(refusal) => Answer::Error(refusal),
-        Step::On(s) => element(&classes, list, &lines, &heads, &nexts, text, s, words),
+    if first.refused != NONE {
+        return Answer::Error(refusal_of(first));
     }
+    element(
+        &classes,
+        list,
+        &lines,
+        &heads,
+        &nexts,
+        text,
+        first.scan,
+        words,
+    )
 }
 
 // White, up to the root's start tag. No list is looked at, so the promise is for any list, and any words.
@@ -145,13 +170,13 @@ fn root(classes: &Classes, text: &[u8]) -> Step
     let at = seen.at;
     let class = seen.class;
     if class != chars::LESS {
-        return Step::Refused(refusal_at(class, at));
+        return stopped(class, at);
     }
     let next = class_at(classes, text, at + 1);
     if next != chars::LETTER {
-        return Step::Refused(refusal_at(next, at + 1));
+        return stopped(next, at + 1);
     }
-    Step::On(Scan {
+    on(Scan {
         at,
         top: 0,
         depth: 0,
@@ -159,8 +184,8 @@ fn root(classes: &Classes, text: &[u8]) -> Step
     })
 }
 
-// The root's element, and white up to the end of the text. The root's start tag is a token like any other, so that one place in the
-// code reads start tags.
+// The root's element, and white up to the end of the text. The root's start tag is a token like any other, so that only one place
+// calls for start tags, and they are compiled into the loop.
 fn element(
     classes: &Classes,
     list: &[u8],
@@ -180,10 +205,10 @@ fn element(
     let mut s = start;
     loop {
         let step = token(classes, list, lines, heads, nexts, text, s, words);
-        match step {
-            Step::Refused(refusal) => return Answer::Error(refusal),
-            Step::On(next) => s = next,
+        if step.refused != NONE {
+            return Answer::Error(refusal_of(step));
         }
+        s = step.scan;
         if s.depth == 0 {
             return ending(classes, text, s);
         }
@@ -198,7 +223,7 @@ fn ending(classes: &Classes, text: &[u8], s: Scan) -> Answer
 {
     let seen = past_white(classes, text, s.at);
     if seen.at < text.len() {
-        return Answer::Error(refusal_at(seen.class, seen.at));
+        return Answer::Error(refusal_of(stopped(seen.class, seen.at)));
     }
     Answer::Count(s.nodes)
 }
@@ -242,10 +267,10 @@ fn token(
         if next == chars::SLASH {
             return end_tag(classes, list, lines, text, moved(s, at + 2), words);
         }
-        return Step::Refused(refusal_at(next, at + 1));
+        return stopped(next, at + 1);
     }
     if (class == chars::GREATER) | (chars::FORBIDDEN <= class) {
-        return Step::Refused(refusal_at(class, at));
+        return stopped(class, at);
     }
     text_node(classes, text, moved(s, at), words)
 }
@@ -269,16 +294,16 @@ fn start_tag(
 {
     let at = s.at;
     if MOST_DEPTH <= s.depth {
-        return Step::Refused(Refusal::Depth(at));
+        return refused(TOO_DEEP, at);
     }
     if MOST_NODES <= s.nodes {
-        return Step::Refused(Refusal::ManyNodes(at));
+        return refused(MANY_NODES, at);
     }
     let from = at + 1;
     let end = skip(classes, text, from, chars::LETTER, chars::HYPHEN);
     let tag = find(list, lines, heads, nexts, &text[from..end]);
     if tag == 0 {
-        return Step::Refused(Refusal::UnknownName(from));
+        return refused(UNKNOWN_NAME, from);
     }
     let node = s.nodes;
     words[node] = packed(tag as u64, s.top as u64, 0, 0);
@@ -301,16 +326,16 @@ fn start_tag_end(classes: &Classes, text: &[u8], s: Scan, words: &mut Words) -> 
     let at = seen.at;
     let class = seen.class;
     if class == chars::GREATER {
-        return Step::On(moved(s, at + 1));
+        return on(moved(s, at + 1));
     }
     if class != chars::SLASH {
-        return Step::Refused(refusal_at(class, at));
+        return stopped(class, at);
     }
     let last = class_at(classes, text, at + 1);
     if last != chars::GREATER {
-        return Step::Refused(refusal_at(last, at + 1));
+        return stopped(last, at + 1);
     }
-    Step::On(close(s, at + 2, words))
+    on(close(s, at + 2, words))
 }
 
 // An end tag, from behind its </ on. Its name is compared with the open element's before it is known where it ends.
@@ -334,18 +359,18 @@ fn end_tag(
     if !named(classes, text, from, name) {
         let first = class_at(classes, text, from);
         if first != chars::LETTER {
-            return Step::Refused(refusal_at(first, from));
+            return stopped(first, from);
         }
-        return Step::Refused(Refusal::OtherName(from));
+        return refused(OTHER_NAME, from);
     }
     let end = from + name.len();
     let seen = past_white(classes, text, end);
     let at = seen.at;
     let class = seen.class;
     if class != chars::GREATER {
-        return Step::Refused(refusal_at(class, at));
+        return stopped(class, at);
     }
-    Step::On(close(s, at + 1, words))
+    on(close(s, at + 1, words))
 }
 
 // A text, up to the < behind it. No list is looked at, so the promise is for any list.
@@ -358,17 +383,17 @@ fn text_node(classes: &Classes, text: &[u8], s: Scan, words: &mut Words) -> Step
     let at = s.at;
     let node = s.nodes;
     if MOST_NODES <= node {
-        return Step::Refused(Refusal::ManyNodes(at));
+        return refused(MANY_NODES, at);
     }
     let stop = text_end(classes, text, at);
     let class = class_at(classes, text, stop);
     if class != chars::LESS {
-        return Step::Refused(refusal_at(class, stop));
+        return stopped(class, stop);
     }
     let end = trimmed_end(classes, text, at, stop);
     let kind = kind_of(classes, &text[at..end]);
     words[node] = packed(TEXT_SYMBOL + kind, 1, at as u64, (end - at) as u64);
-    Step::On(Scan {
+    on(Scan {
         at: stop,
         top: s.top,
         depth: s.depth,
@@ -388,12 +413,61 @@ fn moved(s: Scan, at: usize) -> Scan
     }
 }
 
-// The refusal of a byte, by its class, or of the end of the text, that a form can't go on with.
-fn refusal_at(class: u8, at: usize) -> Refusal
-    ensures { λ r. ⌜ r ≡ stop-refusal class at ⌝ }
+// The text goes on.
+fn on(scan: Scan) -> Step
+    ensures { λ r. ⌜ r ≡ on-step scan ⌝ }
+{
+    Step {
+        refused: NONE,
+        scan,
+    }
+}
+
+// It is refused, with a number, at a place.
+fn refused(number: usize, at: usize) -> Step
+    ensures { λ r. ⌜ r ≡ refused-step number at ⌝ }
+{
+    Step {
+        refused: number,
+        scan: Scan {
+            at,
+            top: 0,
+            depth: 0,
+            nodes: 0,
+        },
+    }
+}
+
+// It is refused at a byte, by its class, or at its end, where a form can't go on.
+fn stopped(class: u8, at: usize) -> Step
+    ensures { λ r. ⌜ r ≡ refused-step (stop-number class) at ⌝ }
 {
     if class == chars::FORBIDDEN {
+        return refused(FORBIDDEN_BYTE, at);
+    }
+    refused(SYNTAX, at)
+}
+
+// The refusal of a step that is refused.
+fn refusal_of(step: Step) -> Refusal
+    ensures { λ r. ⌜ r ≡ refusal-by (step .refused) (step .scan .at) ⌝ }
+{
+    let number = step.refused;
+    let at = step.scan.at;
+    if number == FORBIDDEN_BYTE {
         return Refusal::ForbiddenByte(at);
+    }
+    if number == UNKNOWN_NAME {
+        return Refusal::UnknownName(at);
+    }
+    if number == OTHER_NAME {
+        return Refusal::OtherName(at);
+    }
+    if number == TOO_DEEP {
+        return Refusal::Depth(at);
+    }
+    if number == MANY_NODES {
+        return Refusal::ManyNodes(at);
     }
     Refusal::Syntax(at)
 }
