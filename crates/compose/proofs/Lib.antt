@@ -11,7 +11,7 @@ mod RuleWords
 mod PairingLaws
 mod JointLaws
 mod StartLaws
-mod ChainLaws
+mod KeyLaws
 mod LimitLaws
 mod JoinWords
 mod AnswerLaws

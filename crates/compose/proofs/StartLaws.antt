@@ -11,7 +11,8 @@ use Rattle.model.specs.Lists.{_∈_}
 use Rattle.model.specs.Sheet.{Rule, one, rule-words, RuleInRange}
 use Rattle.model.proofs.Tests.{Told, yea, nay, told, same, eqb-no}
 use Rattle.model.proofs.ListLaws.{∈-each, each-append}
-use Rattle.compose.specs.Rules.{RuleAt, RulesAt, nth, Starts}
+use Rattle.model.proofs.Chains.{nth, rules-next}
+use Rattle.compose.specs.Rules.{RuleAt, RulesAt, Starts}
 use Rattle.compose.proofs.PartLaws.{PartsLeft, Next, next-part}
 
 -- the starts of the first k rules are found, and the rest stands from i on
@@ -72,13 +73,9 @@ module _ (xs : List Rule) {n j : ℕ} (number : length xs ≡ n) where
     pub rule-among : (f : Rule → List Rule) {z : Rule} → z ∈ f (nth xs j) → z ∈ flatMap f xs
     rule-among f m = ∈-each f (nth-∈ xs j (omega arith)) m
 
-    pub rules-next : {B : Type 0} (f : Rule → List B) → flatMap f (drop j xs) ≡ f (nth xs j) ++ flatMap f (drop (j + 1) xs)
-    unfolding flatMap
-    rules-next f = ap (flatMap f) (drop-cons xs j (one 0 0) (omega arith)) ∙ ap (λ (k : ℕ). f (nth xs j) ++ flatMap f (drop k xs)) (sym (add-one j))
-
     pub words-next : (words : Rule → List ℕ) (f : Rule → List Rule)
         → flatMap words (flatMap f (drop j xs)) ≡ flatMap words (f (nth xs j)) ++ flatMap words (flatMap f (drop (j + 1) xs))
-    words-next words f = ap (flatMap words) (rules-next f) ∙ each-append words (f (nth xs j)) (flatMap f (drop (j + 1) xs))
+    words-next words f = ap (flatMap words) (rules-next xs number l f) ∙ each-append words (f (nth xs j)) (flatMap f (drop (j + 1) xs))
 
   pub rules-none : (f : Rule → List Rule) → n ≤ j → flatMap f (drop j xs) ≡ []
   unfolding flatMap

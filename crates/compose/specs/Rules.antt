@@ -1,6 +1,5 @@
 -- Rules in the words of a sheet, and how two pair up.
 use mathlib.Core.Path.{_≡_}
-use mathlib.Core.Logic.{_≢_}
 use mathlib.Core.Bool.{Bool, true, false, cond, _||_}
 use mathlib.Core.List.{List, [], flatMap}
 use mathlib.Core.Option.{Option, none, some}
@@ -10,6 +9,7 @@ use lib.ListN.{length, getD}
 use Rattle.model.specs.Lists.{_∈_}
 use Rattle.model.specs.Sheet.{Order, Step, Rule, one, two, three, order-words, count-words, rule-words, RuleInRange}
 use Rattle.model.specs.Compose.{pair, Sizes, joint-order, joint-count, pair-rule, positions-of}
+use Rattle.model.proofs.Chains.{nth, ChainedBy}
 use Rattle.compose.specs.declared.rule.Pairing.{Pairing}
 use Rattle.compose.specs.declared.rule.Pairing.the-variants.{Apart, Texts, Tags, Contents}
 use Rattle.compose.specs.Parts.{Stands}
@@ -21,9 +21,6 @@ RuleAt p = Stands (rule-words p) (RuleInRange p 64)
 -- rules one after another; where each stands, by a table
 abbrev pub RulesAt : ℕ → List ℕ → ℕ → List Rule → Type 0
 RulesAt p = Stands (flatMap (rule-words p)) (λ xs. (x : Rule) → x ∈ xs → RuleInRange p 64 x)
-
-abbrev pub nth : List Rule → ℕ → Rule
-nth xs j = getD xs j (one 0 0)
 
 pub record Starts (p : ℕ) (s starts : List ℕ) (xs : List Rule) : Type 0 where
   pub number : length xs ≡ length starts
@@ -87,16 +84,6 @@ key (one k q) = k
 key (two a c q) = 2 + a
 key (three o φ q) = 0
 
--- the first rule with the key k from index a on is rule i, or there is none and i is the number of rules
-pub record First (xs : List Rule) (k a i : ℕ) : Type 0 where
-  pub later : a ≤ i
-  pub few : i ≤ length xs
-  pub there : i < length xs → key (nth xs i) ≡ k
-  pub least : (j : ℕ) → a ≤ j → j < i → key (nth xs j) ≢ k
-
--- the rules from index a on are chained: the first of each key, and behind each rule the next with its key
-pub record Chained (xs : List Rule) (heads nexts : List ℕ) (a : ℕ) : Type 0 where
-  pub keys : length heads ≡ 67
-  pub room : length xs ≤ length nexts
-  pub head : (k : ℕ) → k < 67 → First xs k a (getD heads k 0)
-  pub next : (j : ℕ) → a ≤ j → j < length xs → First xs (key (nth xs j)) (j + 1) (getD nexts j 0)
+-- the rules from an index on are chained: the first of each key, and behind each rule the next with its key
+abbrev pub Chained : List Rule → List ℕ → List ℕ → ℕ → Type 0
+Chained = ChainedBy key 67 (λ w. w)

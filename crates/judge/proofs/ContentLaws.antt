@@ -29,7 +29,7 @@ pub record Trying (R : List Rule) (w : List ℕ) (i targets looks : ℕ) : Type 
   pub few : (i ≤ length R) × (looks ≤ i * 2 ^ 32)
 
 pub trying-none : (R : List Rule) (w : List ℕ) → Trying R w 0 0 0
-trying-none R w = record { adding = adding-none (at-content w) R; taking = omega arith; few = (omega arith, omega arith) }
+trying-none R w = record { adding = adding-none refl; taking = omega arith; few = (omega arith, omega arith) }
 
 module _ {s : List ℕ} {counted : Bool} {R : List Rule} {threes : List ℕ} (t : Along (ThreeIn s counted) R threes) where
   module _ {i : ℕ} (h : i < length threes) {places : ℕ} (e : places ≡ getD threes i 0) where
@@ -42,13 +42,13 @@ module _ {s : List ℕ} {counted : Bool} {R : List Rule} {threes : List ℕ} (t 
     pub trying-more : {w : List ℕ} {targets looks r reads : ℕ} {fits : Bool} → Trying R w i targets looks
         → ((x : Rule) → ThreeAt s true (places % 2 ^ 16) (places / 2 ^ 16) x → Tries s (places / 2 ^ 16) w x fits reads) → reads < 2 ^ 32
         → r ≡ mask 64 (λ j. bit targets j || (fits && eqb j (getD s (places / 2 ^ 16) 0))) → Trying R w (i + 1) r (looks + (1 + reads))
-    unfolding tries
+    unfolding tries flatMap
     trying-more {w} {looks = looks} {fits = fits} g f l m =
         let (x, d, at) = along-at t i h in
         let three : ThreeAt s counted (places % 2 ^ 16) (places / 2 ^ 16) x = rw e at in
         let u = f x (three-true three) in
         record {
-          adding = adding-one (g .adding) fits d (u .gives) (target-small three) m;
+          adding = adding-one (g .adding) fits (rw d (rw (u .gives))) (target-small three) m;
           taking = omega (arith, rw d at (g .taking), u .takes);
           few = (omega (arith, along-length t), omega (arith, g .few));
         }

@@ -1,17 +1,17 @@
 -- Where the rules of each kind stand among a sheet's words.
 use mathlib.Core.Path.{_≡_}
-use mathlib.Core.Logic.{_≢_}
 use mathlib.Core.Bool.{Bool, true, false, _||_}
 use mathlib.Core.List.{List, [], _∷_, flatMap}
 use mathlib.Core.Option.{none, some}
 use Prim.Native.Nat.{ℕ, _+_, _/_, _%_, _^_, _≤_, _<_}
 use lib.Dec.{eqb}
-use lib.ListN.{length, getD}
+use lib.ListN.{getD}
 use Rattle.model.specs.Lists.{only}
 use Rattle.model.specs.Answers.{Checked, passes, refuses}
 use Rattle.model.specs.Sheet.{Order, Step, Rule, one, two, three, Sheet, order-words, count-words, OrderInRange, CountInRange, sheet-of}
 use Rattle.model.specs.Run.{kind}
 use Rattle.model.proofs.Spans.{WordsAt, Along}
+use Rattle.model.proofs.Chains.{ChainedBy}
 
 -- ---- the sheet of words that pass
 
@@ -81,20 +81,9 @@ tag (one k q) = 0
 tag (two a c q) = a
 tag (three o c q) = 0
 
-abbrev pub nth : List Rule → ℕ → Rule
-nth R i = getD R i (one 0 0)
-
--- the first rule of tag k from index a on is rule i, or there is none and i is the number of rules
-pub record First (R : List Rule) (k a i : ℕ) : Type 0 where
-  pub later : a ≤ i
-  pub few : i ≤ length R
-  pub there : i < length R → tag (nth R i) ≡ k
-  pub least : (j : ℕ) → a ≤ j → j < i → tag (nth R j) ≢ k
-
--- the rules from index a on are chained: the first of each tag, and behind each rule the next of its tag, in the upper bits of its word
-pub record Chained (R : List Rule) (heads twos : List ℕ) (a : ℕ) : Type 0 where
-  pub head : (k : ℕ) → k < 65 → First R k a (getD heads k 0)
-  pub next : (j : ℕ) → a ≤ j → j < length R → First R (tag (nth R j)) (j + 1) (getD twos j 0 / 2 ^ 16)
+-- the rules from an index on are chained: the first of each tag, and behind each rule the next of its tag, in the upper bits of its word
+abbrev pub Chained : List Rule → List ℕ → List ℕ → ℕ → Type 0
+Chained = ChainedBy tag 65 (λ w. w / 2 ^ 16)
 
 -- ---- parts of a rule, and where each ends
 

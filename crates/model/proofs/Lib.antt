@@ -2,6 +2,7 @@ pub mod Tests
 pub mod CheckLaws
 pub mod ListLaws
 pub mod Spans
+pub mod Chains
 pub mod SetWords
 pub mod SheetCode
 pub mod TreeView

@@ -8,11 +8,12 @@ use Rattle.model.specs.Sheet.{Rule, rule-words}
 use Rattle.model.specs.Compose.{pair-rule}
 use Rattle.model.proofs.Pairs.{of-pairs}
 use Rattle.model.proofs.ListLaws.{each-append}
+use Rattle.model.proofs.Chains.{nth, chain-first, chain-next, chain-later}
 use Rattle.compose.specs.Sides.{sizes-of}
-use Rattle.compose.specs.Rules.{RuleAt, nth, Starts, key, Chained}
+use Rattle.compose.specs.Rules.{RuleAt, Starts, key, Chained}
 use Rattle.compose.proofs.PageLaws.{Left, begun, more, done, kept}
 use Rattle.compose.proofs.StartLaws.{start-here, rule-among, words-none}
-use Rattle.compose.proofs.ChainLaws.{keys-apart, chain-first, chain-next, chain-later}
+use Rattle.compose.proofs.KeyLaws.{keys-apart}
 use borrow.Author.Needs.{needs}
 use Rattle.compose.proofs.joint.put_row.Statement.{statement}
 use Rattle.compose.proofs.joint.put_row.Tie as tie
@@ -40,7 +41,7 @@ put-row-spec =
     (λ c κs. search needs)
     (λ c.
     λ x ys h k chained.
-    let (all, there) = chain-first (pair-rule _ x) (keys-apart _ x) chained (c .before .before .key-at .ensures .0 _ x h) (c .before .before .key-at .ensures .1) (c .wide .ensures) in
+    let (all, there) = chain-first chained (pair-rule _ x) (keys-apart _ x) (c .before .before .key-at .ensures .0 _ x h) (c .before .before .key-at .ensures .1) (c .wide .ensures) in
     (begun (ap (flatMap _) (sym all)), there))
     (λ c. search needs)
     (λ c. search needs)
@@ -58,7 +59,7 @@ put-row-spec =
     λ x ys h k chained.
     let (left, key) = c .before .before .before .before .before .before .before .before .before .loop .inv x ys h k chained in
     let inside : c .before .before .before .before .before .before .before .before .before .loop .j < length ys = omega (arith, k .number) in
-    let (next, there) = chain-next (pair-rule _ x) (keys-apart _ x) chained inside (key inside) (c .wide3 .ensures) in
+    let (next, there) = chain-next chained (pair-rule _ x) (keys-apart _ x) inside (key inside) (c .wide3 .ensures) in
     (more left (ap (flatMap _) next ∙ each-append _ (pair-rule _ x (nth ys (c .before .before .before .before .before .before .before .before .before .loop .j))) _) (c .before .before .before .before .put-pair .ensures x _ h (start-here ys (k .number) (c .before .before .before .before .before .before .before .before .loop-test .taken) k (c .before .before .before .before .before .before .wide2 .ensures))), there))
     (λ c. let (few, (x, ys, h, k, chained, small)) = c .before .before .before .before .before .before .before .before .before .before .pre in kept (c .before .loop .inv x ys h k chained .0))
     (λ c. λ x ys h k chained. done (c .before .loop .inv x ys h k chained .0) (words-none ys (k .number) _ (pair-rule _ x) (c .loop-test .left))))

@@ -6,10 +6,11 @@ use native.Mathlib.Omega.{arith}
 use lib.ListN.{length, drop}
 use Rattle.model.specs.Sheet.{Rule}
 use Rattle.model.specs.Compose.{pair-rule}
+use Rattle.model.proofs.Chains.{nth, chain-first, chain-next, chain-later}
 use Rattle.compose.specs.Sides.{sizes-of}
-use Rattle.compose.specs.Rules.{RuleAt, nth, Starts, key, Chained}
+use Rattle.compose.specs.Rules.{RuleAt, Starts, key, Chained}
 use Rattle.compose.proofs.StartLaws.{start-here, rules-none}
-use Rattle.compose.proofs.ChainLaws.{keys-apart, chain-first, chain-next, chain-later}
+use Rattle.compose.proofs.KeyLaws.{keys-apart}
 use Rattle.compose.proofs.LimitLaws.{TallyLeft, tally-begun, tally-more, tally-done, pair-room}
 use borrow.Author.Needs.{needs}
 use Rattle.compose.proofs.limits.tally_row.Statement.{statement}
@@ -36,7 +37,7 @@ tally-row-spec =
     (λ c κs. search needs)
     (λ c.
     λ x ys h k chained.
-    let (all, there) = chain-first (pair-rule _ x) (keys-apart _ x) chained (c .before .before .key-at .ensures .0 _ x h) (c .before .before .key-at .ensures .1) (c .wide .ensures) in
+    let (all, there) = chain-first chained (pair-rule _ x) (keys-apart _ x) (c .before .before .key-at .ensures .0 _ x h) (c .before .before .key-at .ensures .1) (c .wide .ensures) in
     (tally-begun (sym all), there))
     (λ c. search needs)
     (λ c. search needs)
@@ -53,7 +54,7 @@ tally-row-spec =
     λ x ys h k chained.
     let (left, key) = c .before .before .before .before .before .before .before .loop .inv x ys h k chained in
     let inside : c .before .before .before .before .before .before .before .loop .j < length ys = omega (arith, k .number) in
-    let (next, there) = chain-next (pair-rule _ x) (keys-apart _ x) chained inside (key inside) (c .wide3 .ensures) in
+    let (next, there) = chain-next chained (pair-rule _ x) (keys-apart _ x) inside (key inside) (c .wide3 .ensures) in
     let here = c .before .before .before .tally-pair .ensures x _ h (start-here ys (k .number) (c .before .before .before .before .before .before .loop-test .taken) k (c .before .before .before .before .wide2 .ensures)) in
     (tally-more left next here (c .before .before .with-more .ensures .0) (c .before .before .with-more .ensures .1), there))
     (λ c. λ x ys h k chained. tally-done (c .before .loop .inv x ys h k chained .0) (rules-none ys (k .number) (pair-rule _ x) (c .loop-test .left))))

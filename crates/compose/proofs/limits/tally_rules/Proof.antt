@@ -6,9 +6,10 @@ use native.Mathlib.Omega.{arith}
 use lib.ListN.{length, drop}
 use Rattle.model.specs.Sheet.{Rule}
 use Rattle.model.specs.Compose.{pair-rule, joint-rules}
+use Rattle.model.proofs.Chains.{rules-next}
 use Rattle.compose.specs.Sides.{sizes-of}
 use Rattle.compose.specs.Rules.{Starts, Chained}
-use Rattle.compose.proofs.StartLaws.{start-here, rules-next, rules-none}
+use Rattle.compose.proofs.StartLaws.{start-here, rules-none}
 use Rattle.compose.proofs.LimitLaws.{TallyLeft, tally-begun, tally-more, tally-many, tally-all, row-small}
 use borrow.Author.Needs.{needs}
 use Rattle.compose.proofs.limits.tally_rules.Statement.{statement}

@@ -5,9 +5,9 @@ use Prim.Native.Nat.{ℕ, _-_, _≤_, _<_}
 use native.Mathlib.Omega.{arith}
 use lib.ListN.{length, length-set}
 use Rattle.model.specs.Sheet.{Rule}
+use Rattle.model.proofs.Chains.{chained-none, chained-more, chained-all}
 use Rattle.compose.specs.Rules.{Starts, Chained}
 use Rattle.compose.proofs.StartLaws.{start-here}
-use Rattle.compose.proofs.ChainLaws.{chained-none, chained-more, chained-all}
 use borrow.Author.Needs.{needs}
 use Rattle.compose.proofs.rule.chain_rules.Statement.{statement}
 use Rattle.compose.proofs.rule.chain_rules.Tie as tie
@@ -45,7 +45,7 @@ chain-rules-spec =
       omega (arith, c .before .before .before .before .before .loop .inv .1),
       λ p xs h.
           let inside : c .before .before .before .before .before .loop .j - 1 < length (c .before .before .before .before .before .before .before .before .before .before .args .starts .now) = omega (arith, c .before .before .before .before .before .loop .inv .1) in
-          chained-more (c .before .before .before .before .before .loop .inv .2 p xs h) (omega arith) (omega (arith, h .number)) (c .before .key-at .ensures .0 p _ (start-here xs (h .number) inside h (c .before .before .wide .ensures))) (c .before .key-at .ensures .1),
+          chained-more (c .before .before .before .before .before .loop .inv .2 p xs h) (omega arith) (omega (arith, h .number)) (c .before .key-at .ensures .0 p _ (start-here xs (h .number) inside h (c .before .before .wide .ensures))) (c .before .key-at .ensures .1) refl,
     ))
     (λ c. c .before .loop .inv .0)
     (λ c. λ p xs h. chained-all (c .before .loop .inv .2 p xs h) (c .loop-test .left)))

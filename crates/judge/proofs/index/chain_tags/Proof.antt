@@ -3,8 +3,9 @@ use mathlib.Core.Path.{_≡_, refl}
 use native.Mathlib.Omega.{arith}
 use borrow.Author.Needs.{needs}
 use lib.ListN.{length, length-set}
+use Rattle.model.proofs.Chains.{chained-all}
 use Rattle.judge.specs.Index.{rules-in, rules-of}
-use Rattle.judge.proofs.ChainLaws.{Chaining, chaining-none, chaining-room, next-few, chaining-more, chaining-all}
+use Rattle.judge.proofs.ChainLaws.{Chaining, chaining-none, chaining-room, next-few, chaining-more}
 use Rattle.judge.proofs.index.chain_tags.Statement.{statement}
 use Rattle.judge.proofs.index.chain_tags.Tie as tie
 
@@ -44,4 +45,4 @@ chain-tags-spec =
     (λ c. search needs)
     (λ c. (chaining-more (c .before .before .before .before .before .before .before .loop .inv .0) (c .before .before .before .before .before .before .loop-test .taken) (c .before .before .before .before .wide .ensures) (c .before .before .wide2 .ensures) (c .wide3 .ensures), simp length-set (c .before .before .before .before .before .before .before .loop .inv .1)))
     (λ c. c .before .loop .inv .1)
-    (λ c. (c .before .loop .inv .0 .places, chaining-all (c .before .loop .inv .0) (c .loop-test .left))))
+    (λ c. (c .before .loop .inv .0 .places, chained-all (c .before .loop .inv .0 .chains) (c .loop-test .left))))

@@ -5,12 +5,13 @@ use Prim.Native.Nat.{ℕ, _-_, _/_, _<_}
 use native.Mathlib.Omega.{arith}
 use borrow.Author.Needs.{needs}
 use lib.ListN.{length}
-use Rattle.judge.proofs.ChainLaws.{chain-first, chain-next, chain-later}
-use Rattle.judge.proofs.TargetLaws.{Adding, adding-all, two-room, two-adds}
+use Rattle.judge.proofs.ChainLaws.{tags-apart}
+use Rattle.judge.proofs.TargetLaws.{Adding, adding-none, adding-all, two-room, two-adds}
 use Rattle.judge.proofs.KindLaws.{tags-of, along-length}
-use Rattle.judge.specs.Index.{rules-in, rules-of, tag, nth}
+use Rattle.judge.specs.Index.{rules-in, rules-of, tag}
 use Rattle.bits.specs.Stands.{Stands}
 use Rattle.model.specs.Run.{at-tag}
+use Rattle.model.proofs.Chains.{nth, chain-first, chain-next, chain-later}
 use Rattle.judge.proofs.targets.tag_targets.Statement.{statement}
 use Rattle.judge.proofs.targets.tag_targets.Tie as tie
 
@@ -30,11 +31,11 @@ tag-targets-spec =
     (λ c. omega (arith, c .wide .ensures, c .before .before .before .pre .1 .1))
     (λ c. omega (arith, c .wide .ensures, c .before .before .before .pre .1 .1))
     (λ c κs. search needs)
-    (λ c. λ l s. chain-first (c .before .before .before .before .before .pre .1 .0) _ l (c .before .before .wide .ensures) (c .before .before .before .before .before .pre .1 .1) (c .wide2 .ensures))
+    (λ c. λ l s. let (all, there) = chain-first (c .before .before .before .before .before .pre .1 .0) (at-tag _ l) (tags-apart _ l) (c .before .before .wide .ensures) (omega (arith, c .before .before .wide .ensures, c .before .before .before .before .before .pre .1 .1)) (c .wide2 .ensures) in (adding-none all, there))
     (λ c. search needs)
     (λ c. search needs)
     (λ c κs. search needs)
     (λ c κs. two-room (c .before .before .before .before .before .before .before .before .before .pre .0) (c .before .before .loop-test .taken) (c .wide3 .ensures) .0)
     (λ c. omega (arith, chain-later (c .before .before .before .before .before .before .before .before .before .before .pre .1 .0) (omega (arith, along-length (c .before .before .before .before .before .before .before .before .before .before .pre .0))) (ap (λ n. n / 65536) (c .before .wide3 .ensures))))
-    (λ c. λ l s. let inside : c .before .before .before .before .loop .i < length (rules-of 2 (rules-in (c .before .before .before .before .before .before .before .before .before .before .args .sheet .now))) = omega (arith, along-length (c .before .before .before .before .before .before .before .before .before .before .pre .0)) in let (g, named) = c .before .before .before .before .loop .inv l s in chain-next (c .before .before .before .before .before .before .before .before .before .before .pre .1 .0) _ l inside (named inside) (ap (λ n. n / 65536) (c .before .wide3 .ensures)) (two-adds (c .before .before .before .before .before .before .before .before .before .before .pre .0) (c .before .before .before .loop-test .taken) (c .before .wide3 .ensures) _ s g (named inside) refl (c .with-target .ensures)))
+    (λ c. λ l s. let inside : c .before .before .before .before .loop .i < length (rules-of 2 (rules-in (c .before .before .before .before .before .before .before .before .before .before .args .sheet .now))) = omega (arith, along-length (c .before .before .before .before .before .before .before .before .before .before .pre .0)) in let (g, named) = c .before .before .before .before .loop .inv l s in let (next, there) = chain-next (c .before .before .before .before .before .before .before .before .before .before .pre .1 .0) (at-tag _ l) (tags-apart _ l) inside (named inside) (ap (λ n. n / 65536) (c .before .wide3 .ensures)) in (two-adds (c .before .before .before .before .before .before .before .before .before .before .pre .0) (c .before .before .before .loop-test .taken) (c .before .wide3 .ensures) _ s g (named inside) next refl (c .with-target .ensures), there))
     (λ c. λ l s. rw tags-of (adding-all (c .before .loop .inv l s .0) (omega (arith, along-length (c .before .before .before .before .before .before .before .pre .0))))))

@@ -1,4 +1,5 @@
 -- `targets::text_targets` meets its contract: so far the set holds what the rules passed give.
+use mathlib.Core.Path.{refl}
 use Prim.Native.Nat.{_-_}
 use native.Mathlib.Omega.{arith}
 use borrow.Author.Needs.{needs}
@@ -22,7 +23,7 @@ text-targets-spec =
     (tie.spec
     Inv-loop
     μ-loop
-    (λ c. adding-none _ _)
+    (λ c. adding-none refl)
     (λ c. search needs)
     (λ c. search needs)
     (λ c κs. search needs)
