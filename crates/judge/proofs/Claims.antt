@@ -1,6 +1,6 @@
 -- Demand 2 of the code: what the answer of `judge` and the states that it leaves say of the transition relation, by its promise
 -- alone, where no earlier refusal stands: the sheet's words pass, the tree passes over its tags, and there is room for the states.
-use mathlib.Core.Path.{_≡_, sym, subst}
+use mathlib.Core.Path.{_≡_}
 use mathlib.Core.Logic.{_↔_}
 use mathlib.Core.List.{List}
 use Prim.Native.Nat.{ℕ, _*_, _/_, _≤_}

@@ -1,17 +1,15 @@
--- Content: the loop over the kind-three rules, and one child apart from none and several.
+-- Content: the loop over the kind-three rules, and content of no child or several.
 use mathlib.Core.Path.{_≡_, refl, _∙_}
 use mathlib.Core.Logic.{_≢_}
 use mathlib.Core.Bool.{Bool, true, _&&_, _||_}
 use mathlib.Core.List.{List, [], _∷_, flatMap}
-use Prim.Native.Nat.{ℕ, _+_, _-_, _*_, _/_, _%_, _^_, _≤_, _<_}
+use Prim.Native.Nat.{ℕ, _+_, _*_, _/_, _%_, _^_, _≤_, _<_}
 use native.Mathlib.Omega.{arith}
 use lib.Dec.{eqb}
 use lib.ListN.{length, getD, drop, drop-of-length-le}
-use Rattle.model.specs.Lists.{only}
 use Rattle.model.specs.Sheet.{Rule, mask, bit}
 use Rattle.model.specs.Run.{at-content, content-targets, tries, unless-one}
 use Rattle.model.proofs.Spans.{Along}
-use Rattle.bits.proofs.SetLaws.{gathers-none, gathers-more, gathers-all}
 use Rattle.judge.specs.Parts.{StateWords, states-of}
 use Rattle.judge.specs.Index.{rules-of, ThreeAt, ThreeIn}
 use Rattle.judge.specs.Found.{Tries, Finds}

@@ -1,6 +1,5 @@
 -- `node::tagged` meets its contract: content that reaches no state, and content that reaches some.
 use native.Mathlib.Omega.{arith}
-use borrow.Author.Needs.{needs}
 use Rattle.judge.proofs.ElementLaws.{tagged-unreached, tagged-reached}
 use Rattle.judge.proofs.node.tagged.Statement.{statement}
 use Rattle.judge.proofs.node.tagged.Tie as tie
