@@ -7,7 +7,7 @@ use crate::parts::MINUS_ONE;
 use crate::parts::ORDER;
 use crate::parts::TAG;
 use crate::parts::TEXT;
-use crate::parts::add;
+use rows::add;
 
 // Trees over the tags ct, oven, site, units: cases 1, 2 and 3, and a site with its sensor before its oven.
 const CASE_1: [u32; 16] = [3, 4, 0, 0, 2, 1, 0, 0, 1, 1, 0, 0, 4, 1, 0, 0];

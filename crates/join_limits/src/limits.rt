@@ -6,9 +6,9 @@ use crate::parts::ORDER;
 use crate::parts::ORDER_COUNT;
 use crate::parts::TAG;
 use crate::parts::TEXT;
-use crate::parts::add;
 use crate::parts::alike;
 use crate::parts::repeat;
+use rows::add;
 
 // the most words of a sheet
 const MOST_WORDS: usize = 16384;

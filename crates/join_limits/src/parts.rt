@@ -1,4 +1,5 @@
 // Sheets built row by row, each in an array of its length.
+use rows::add;
 
 // maps of rules: of a text's kind, of a tag, of content; with an order part, with a count part, with both
 pub(crate) const TEXT: u32 = 33;
@@ -26,26 +27,6 @@ pub(crate) const OR: u32 = 5;
 
 // the word of −1
 pub(crate) const MINUS_ONE: u32 = 0xFFFF_FFFF;
-
-// Writes a word where there is room for it, and gives the next index.
-fn put(sheet: &mut [u32], at: usize, word: u32) -> usize {
-    if at < sheet.len() {
-        sheet[at] = word;
-        return at + 1;
-    }
-    at
-}
-
-// Writes a row of words from index `at` on, and gives the next index.
-pub(crate) fn add(sheet: &mut [u32], at: usize, row: &[u32]) -> usize {
-    let mut next = at;
-    let mut i = 0;
-    while i < row.len() {
-        next = put(sheet, next, row[i]);
-        i += 1;
-    }
-    next
-}
 
 // Writes a row of words so many times, and gives the next index.
 pub(crate) fn repeat(sheet: &mut [u32], at: usize, times: u32, row: &[u32]) -> usize {

@@ -11,7 +11,7 @@ use crate::parts::ORDER_COUNT;
 use crate::parts::REMAINDER;
 use crate::parts::TAG;
 use crate::parts::TEXT;
-use crate::parts::add;
+use rows::add;
 
 // what comes before the one rule of S and of T
 const S_HEAD: [u32; 6] = [1, 2, 2, 0, 1, 1];

@@ -1,5 +1,6 @@
 // Rule sheets for the samples, row by row; each gives its number of words. An arc is the position that it leaves, the state that it
 // reads and the position that it enters, of two hexadecimal digits each.
+use rows::add;
 
 // enough for each of the sheets
 pub(crate) const MOST_WORDS: usize = 256;
@@ -24,26 +25,6 @@ const AND: u32 = 4;
 
 // -1 as a word
 const MINUS_ONE: u32 = 0xFFFF_FFFF;
-
-// Writes a word where there is room for it, and gives the next index.
-fn put(sheet: &mut [u32; MOST_WORDS], at: usize, word: u32) -> usize {
-    if at < MOST_WORDS {
-        sheet[at] = word;
-        return at + 1;
-    }
-    at
-}
-
-// Writes a row of words from index `at` on, and gives the next index.
-fn add(sheet: &mut [u32; MOST_WORDS], at: usize, row: &[u32]) -> usize {
-    let mut next = at;
-    let mut i = 0;
-    while i < row.len() {
-        next = put(sheet, next, row[i]);
-        i += 1;
-    }
-    next
-}
 
 // A book entry: author, title and date once each and references at most once, in any order; references are entries. States: 0 a
 // text, 1 a number, 2 auth, 3 title, 4 date, 5 ref, 6 entry, 7 book, 8 an entry's fields, 9 entries.
