@@ -37,7 +37,8 @@ module _ {before row words : List ℕ} {at next : ℕ} (h : Adding before at row
       }
 
   all-that-fit : next - at ≡ room-for row at before → Added before at row next words
-  all-that-fit e = record { next-is = omega (arith, e, h .from); buffer = h .buffer ∙ ap₂ (λ (n m : ℕ). take at before ++ take n row ++ drop m before) e here }
+  unfolding Added
+  all-that-fit e = (omega (arith, e, h .from), h .buffer ∙ ap₂ (λ (n m : ℕ). take at before ++ take n row ++ drop m before) e here)
 
   pub whole-row : length row ≤ next - at → Added before at row next words
   whole-row l = let e : next - at ≡ length row = omega (arith, h .in-row) in

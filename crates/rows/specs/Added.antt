@@ -9,6 +9,5 @@ abbrev pub room-for : List ℕ → ℕ → List ℕ → ℕ
 room-for row at words = min (length row) (length words - at)
 
 -- the buffer after it has these words from `at` on, and else what stood there before; `next` is the index behind them
-pub record Added (before : List ℕ) (at : ℕ) (row : List ℕ) (next : ℕ) (after : List ℕ) : Type 0 where
-  pub next-is : next ≡ at + room-for row at before
-  pub buffer : after ≡ take at before ++ take (room-for row at before) row ++ drop next before
+unfoldable pub Added : List ℕ → ℕ → List ℕ → ℕ → List ℕ → Type 0
+Added before at row next after = (next ≡ at + room-for row at before) × (after ≡ take at before ++ take (room-for row at before) row ++ drop next before)
