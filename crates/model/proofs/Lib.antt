@@ -33,6 +33,7 @@ pub mod Zipper
 pub mod ReadSteps
 pub mod ReadGood
 pub mod RoundTrip
+pub mod Formcheck
 pub mod Examples
 pub mod Cut
 pub mod LineLaws

@@ -1,14 +1,23 @@
--- The line of whole files, by the promise of `line` alone. A program reads as much of each file as its array holds; `names_array`,
--- `sheet_array` and `form_array` promise how much that is.
+-- The line of whole files, and what it tells of them, by the promise of `line` alone. A program reads as much of each file as its array
+-- holds; `names_array`, `sheet_array` and `form_array` promise how much that is.
 use mathlib.Core.Path.{_≡_, sym, ap, _∙_}
+use mathlib.Core.Logic.{_↔_}
 use mathlib.Core.List.{List, _++_}
 use Prim.Native.Nat.{ℕ}
 use native.Mathlib.Omega.{arith}
 use lib.ListN.{length, take, drop}
 use lib.Seq.{take-at, drop-at}
 use denote.Ref.{now}
+use Rattle.model.specs.Answers.{Said, accepted}
+use Rattle.model.specs.Tree.{Element}
+use Rattle.model.specs.Sheet.{Sheet}
+use Rattle.model.specs.Relation.{Accepts}
+use Rattle.model.specs.Calls.{formcheck}
 use Rattle.model.specs.Line.{line-of, formcheck-line}
 use Rattle.model.proofs.Cut.{formcheck-cut}
+use Rattle.model.proofs.Formcheck as model
+use Rattle.model.proofs.Formcheck.{Presents}
+use Rattle.model.proofs.LineLaws.{line-tells}
 use Rattle.verdict.specs.Sizes.{names-bytes, sheet-bytes, form-bytes}
 use Rattle.verdict.proofs.line.Reads as reads
 
@@ -35,3 +44,13 @@ module _ (list file s : List ℕ) {out left : List ℕ} {r : ℕ} (promise : Pro
 
   pub past-left : drop r left ≡ drop r out
   past-left = ap (drop r) (promise .buffer) ∙ drop-at (formcheck-line (take names-bytes list) (take sheet-bytes file) (take form-bytes s)) (drop r out) r (sym (promise .count))
+
+  -- That is the line of an answer exactly when formcheck says it of the files …
+  pub says : (x : Said) → (take r left ≡ line-of x) ↔ (formcheck list file s ≡ x)
+  unfolding formcheck-line
+  says x = (λ h. line-tells (formcheck list file s) x (sym line-left ∙ h), λ h. line-left ∙ ap line-of h)
+
+  -- … so it says accepted exactly when the files present a sheet and a form that the sheet accepts.
+  pub accepts : ((q m : ℕ) × (take r left ≡ line-of (accepted q m))) ↔ ((t : Sheet) × (e : Element) × Presents list file s t e × Accepts t e)
+  accepts =
+      (λ x. let (q, m, h) = x in model.accepts list file s .0 (q, m, says (accepted q m) .0 h), λ x. let (q, m, h) = model.accepts list file s .1 x in (q, m, says (accepted q m) .1 h))

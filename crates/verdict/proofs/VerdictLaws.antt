@@ -11,19 +11,17 @@ use Rattle.model.specs.declared.Answer.{Answer}
 use Rattle.model.specs.declared.Answer.the-variants.{Count, Error}
 use Rattle.model.specs.declared.Refusal.{Refusal}
 use Rattle.model.specs.Answers.{refusal, said-refusal, said, Checked, passes, refuses, _>>=_, _>>_, require, room-for, buffer-after}
-use Rattle.model.specs.Tree.{Element, Document, size, sizeD, wordsD, tree-of}
+use Rattle.model.specs.Tree.{Document, sizeD, words, wordsD}
 use Rattle.model.specs.Sheet.{Sheet, sheet-of, sheet-words, set-words, file-words}
 use Rattle.model.specs.Names.{names-of}
 use Rattle.model.specs.Text.{form-of}
-use Rattle.model.specs.Run.{items, run, verdict}
-use Rattle.model.specs.Calls.{names-said, read, read-said, read-tree, from-file, from-file-said, from-file-sheet, judge, verdict-of, judge-said, formcheck}
-use Rattle.model.proofs.Tests.{eqb-yes}
+use Rattle.model.specs.Calls.{names-said, read, read-said, read-tree, from-file, from-file-said, from-file-sheet, verdict-of, judge-said, formcheck}
 use Rattle.model.proofs.CheckLaws.{refuses≢passes, passes-inj, bind-inv, bind-passes, then-inv, then-passes}
 use Rattle.model.proofs.SheetCode.{sheet-passes}
-use Rattle.model.proofs.TreeLaws.{length-wordsD, tree-passes}
-use Rattle.model.proofs.NameLaws.{few-names}
+use Rattle.model.proofs.TreeLaws.{length-wordsD}
 use Rattle.model.proofs.ReadGood.{read-good}
 use Rattle.model.proofs.RoundTrip.{one-size, one-words, room-passes}
+use Rattle.model.proofs.Formcheck.{Presents, judged}
 use Rattle.model.proofs.Answered as answered
 use Rattle.judge.specs.Index.{passed, sheet-in, Passes}
 
@@ -47,29 +45,15 @@ file-refused file room large e =
     e
 
 module _ (list s : List ℕ) {g : ℕ} (names : names-of list ≡ passes g) where
-  -- what is read keeps the rules of a tree
-  record Shaped (d : Document) : Type 0 where
-    form : Element
-    as-tree : tree-of g (wordsD d) ≡ passes form
-    nodes : size form ≡ sizeD d
-    few : sizeD d ≤ 4096
-
-  shaped : {d : Document} → form-of list s ≡ passes d → Shaped d
-  shaped {d} e =
-      let (f, one, over, _, _) = read-good list s g d names e in
-      let n : size f ≡ sizeD d = sym (ap sizeD one ∙ one-size f) in
-      record {
-        form = f;
-        as-tree = tree-passes g (few-names list g names) (wordsD d) f .1 (ap wordsD one ∙ one-words f, over);
-        nodes = n;
-        few = omega (arith, over .few);
-      }
+  -- what is read has no more nodes than a tree may have
+  few-nodes : {d : Document} → form-of list s ≡ passes d → sizeD d ≤ 4096
+  few-nodes {d} reads = let (e, one, over, _, _) = read-good list s g d names reads in omega (arith, over .few, ap sizeD one, one-size e)
 
   -- the tree of a text, where the buffer has room for any tree
   read-refused : {n i : ℕ} (room : ℕ) → 16384 ≤ room → read list s room ≡ refuses n i → form-of list s ≡ refuses n i
   unfolding read
   read-refused room large e =
-      first-refuses (form-of list s) _ (λ d p. (d, then-passes _ (room-passes (4 * sizeD d) room (omega (arith, shaped p .few))))) (sym (bind-passes _ names) ∙ e)
+      first-refuses (form-of list s) _ (λ d p. (d, then-passes _ (room-passes (4 * sizeD d) room (omega (arith, few-nodes p))))) (sym (bind-passes _ names) ∙ e)
 
   read-inv : (room : ℕ) {d : Document} → read list s room ≡ passes d → form-of list s ≡ passes d
   unfolding read
@@ -100,10 +84,6 @@ module _ (list file s : List ℕ) where
         at-tags : g ≢ t .tags → refusal 20 (t .tags) ≡ formcheck list file s
         unfolding formcheck verdict-of _>>=_ _>>_ require
         at-tags h = rw (names, ok, reads, ne-eqb g (t .tags) h)
-
-        at-run : g ≡ t .tags → verdict (t .final) (run (t .rules) (items (wordsD d))) ≡ formcheck list file s
-        unfolding formcheck verdict-of _>>=_ _>>_ require
-        at-run h = rw (names, ok, reads, eqb-yes h)
 
   -- ---- the calls' answers
 
@@ -167,7 +147,7 @@ module _ (list s : List ℕ) {g : ℕ} (names : names-of list ≡ passes g) wher
         document = d;
         reads = reads;
         nodes = k;
-        few = omega (arith, shaped list s names reads .few);
+        few = omega (arith, few-nodes list s names reads);
         front = ap (take (n * 4)) written ∙ take-at (wordsD d) _ (n * 4) (omega (arith, length-wordsD d));
       }
 
@@ -191,10 +171,8 @@ module _ (list s : List ℕ) {g : ℕ} (names : names-of list ≡ passes g) wher
       tags-differ h = rw counted (at-tags list file s names as-sheet (t .reads) (rw counted at h))
 
       pub form-judged : g ≡ tags → (states : List ℕ) → 4096 ≤ length states → judge-said sheet (take (n * 4) after) states ≡ formcheck list file s
-      unfolding judge-said judge verdict-of _>>=_ _>>_
       form-judged h states large =
-          let shape = shaped list s names (t .reads) in
-          let same : g ≡ sheet-in sheet .tags = h ∙ counted in
-          let as-tree : tree-of (sheet-in sheet .tags) (wordsD (t .document)) ≡ passes (shape .form) = rw (← same) (shape .as-tree) in
-          rw (t .front, ok .as-sheet, as-tree, room-passes (size (shape .form)) (length states) (omega (arith, shape .nodes, shape .few)))
-          (at-run list file s names as-sheet (t .reads) same)
+          let (e, one, over, _, _) = read-good list s g (t .document) names (t .reads) in
+          let presents : Presents list file s (sheet-in sheet) e = record { names = names ∙ ap passes (h ∙ counted); sheet = as-sheet; form = t .reads ∙ ap passes one } in
+          let words-are : take (n * 4) after ≡ words e = t .front ∙ ap wordsD one ∙ one-words e in
+          rw (words-are, ← from) (sym (judged presents states (omega (arith, over .few))))
