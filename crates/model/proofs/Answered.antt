@@ -1,21 +1,22 @@
--- What an answer tells of the check that it answers for.
+-- What an answer tells of the check that it answers for, and of the buffer that the call was lent.
 use mathlib.Core.Path.{_≡_, refl, sym, ap, _∙_}
-use mathlib.Core.List.{List}
-use Prim.Native.Nat.{ℕ}
+use mathlib.Core.List.{List, _++_}
+use Prim.Native.Nat.{ℕ, _*_}
 use native.Mathlib.Omega.{arith}
-use lib.ListN.{length}
-use Rattle.model.specs.Answers.{count, refusal, said, said-refusal, Checked, passes, refuses, answer-of}
-use Rattle.model.specs.Tree.{Element, size, tree-of}
+use lib.ListN.{length, take, drop}
+use lib.Seq.{take-at, drop-at}
+use Rattle.model.specs.Answers.{count, refusal, said, said-refusal, Checked, passes, refuses, _>>=_, answer-of, buffer-after}
+use Rattle.model.specs.Tree.{Element, Document, size, sizeD, wordsD, tree-of}
 use Rattle.model.specs.Sheet.{Sheet, sheet-of}
 use Rattle.model.specs.Names.{names-of}
-use Rattle.model.specs.Calls.{names-said, tree-said, sheet-said}
+use Rattle.model.specs.Calls.{names-said, read, read-said, read-tree, tree-said, sheet-said}
 use Rattle.model.specs.declared.Answer.{Answer}
 use Rattle.model.specs.declared.Answer.the-variants.{Count, Error}
 use Rattle.model.specs.declared.Refusal.{Refusal}
 use Rattle.model.specs.declared.Refusal.the-variants as refusals
 use Rattle.model.specs.declared.Refusal.the-variants.{LongText, ForbiddenByte, Syntax, UnknownName, OtherName, Depth, ManyNodes, NameList, Tree, TextWords, TagCounts, JointLimit, ShortBuffer, TwoStates, LongForm}
 use Rattle.model.proofs.SheetCode.{sheet-refuses}
-use Rattle.model.proofs.TreeLaws.{tree-refuses}
+use Rattle.model.proofs.TreeLaws.{length-wordsD, tree-refuses}
 
 -- every case of `Refusal` says a number and a place
 pub refusal-says : (x : Refusal) → (n i : ℕ) × (said-refusal x ≡ refusal n i)
@@ -61,6 +62,34 @@ refused f c {x = x} h e =
     let (m, i, s) = refusal-says x in
     (m, i, refusal-said f c (sym s ∙ sym (ap said e) ∙ h), s)
 
+-- What a call promises that writes words and counts them: its answer r, and what it leaves of a lent buffer. c is the model's call.
+pub record Promised (c : Checked (List ℕ)) (out : List ℕ) (r : Answer) (left : List ℕ) : Type 0 where
+  pub answer : said r ≡ answer-of length c
+  pub buffer : left ≡ buffer-after out c
+
+module _ {c : Checked (List ℕ)} {out left : List ℕ} {r : Answer} (promise : Promised c out r left) where
+  -- where n words are counted, the first n words left are those of the model's call …
+  pub front-left : {n : ℕ} → r ≡ Count n → c ≡ passes (take n left)
+  unfolding buffer-after
+  front-left {n} e =
+      let (ws, passed, size) = counted length c (promise .answer) e in
+      let front : take n left ≡ ws = ap (take n) (promise .buffer ∙ ap (buffer-after out) passed) ∙ take-at ws (drop (length ws) out) n size in
+      passed ∙ ap passes (sym front)
+
+  -- … and the words past them are as they were
+  pub past-left : {n : ℕ} → r ≡ Count n → drop n left ≡ drop n out
+  unfolding buffer-after
+  past-left {n} e =
+      let (ws, passed, size) = counted length c (promise .answer) e in
+      ap (drop n) (promise .buffer ∙ ap (buffer-after out) passed) ∙ drop-at ws (drop (length ws) out) n size ∙ ap (λ k. drop k out) size
+
+  -- a refusal leaves every word as it was
+  pub refused-left : {x : Refusal} → r ≡ Error x → left ≡ out
+  unfolding buffer-after
+  refused-left e =
+      let (m, i, refusing, says) = refused length c (promise .answer) e in
+      promise .buffer ∙ ap (buffer-after out) refusing
+
 -- of a name list
 module _ (list : List ℕ) {r : Answer} where
   pub names-counted : {n : ℕ} → said r ≡ names-said list → r ≡ Count n → names-of list ≡ passes n
@@ -83,6 +112,15 @@ module _ (g : ℕ) (t : List ℕ) {r : Answer} where
       let (m, i, q, s) = refused size (tree-of g t) h e in
       let n = tree-refuses g t q in
       (i, rw n at q, rw n at s)
+
+-- of a text: where n nodes are counted, their words stand at the front of the lent tree
+pub read-counted : (list s tree : List ℕ) {left : List ℕ} {r : Answer} {n : ℕ} → said r ≡ read-said list s tree → left ≡ read-tree list s tree → r ≡ Count n
+    → (d : Document) × (read list s (length tree) ≡ passes d) × (sizeD d ≡ n) × (take (n * 4) left ≡ wordsD d)
+unfolding read-said read-tree buffer-after _>>=_
+read-counted list s tree {left} {n = n} h b e =
+    let (d, p, k) = counted sizeD (read list s (length tree)) h e in
+    let whole : left ≡ wordsD d ++ drop (length (wordsD d)) tree = b ∙ ap (λ c. buffer-after tree (c >>= λ d. passes (wordsD d))) p in
+    (d, p, k, ap (take (n * 4)) whole ∙ take-at (wordsD d) _ (n * 4) (omega (arith, length-wordsD d)))
 
 -- of a sheet
 module _ (ws : List ℕ) {r : Answer} where

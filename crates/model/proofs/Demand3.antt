@@ -28,50 +28,49 @@ use Rattle.model.proofs.Demand2.{Names, looks-in, verdict-names, verdic
 pub data Reading : Type 0 where
   by-rules by-run : Reading
 
--- a sheet's words, which pass, beside a tree over its tags, with room for the states of a run
+-- a sheet's words, which pass, beside a tree over its tags, and the verdict that a run returns, with room for the states
 pub record Sheet-on (tree : List ℕ) (e : Element) : Type 0 where
   pub words : List ℕ
   pub sheet : Sheet
   pub states : List ℕ
+  pub verdict : Said
   pub passed : sheet-of words ≡ passes sheet
   pub over : tree-of (sheet .tags) tree ≡ passes e
   pub room : size e ≤ length states
+  pub returned : verdict ≡ judge-said words tree states
 
 module _ {tree : List ℕ} {e : Element} where
-  abbrev pub verdict-on : Sheet-on tree e → Said
-  verdict-on S = judge-said (S .words) tree (S .states)
-
   abbrev pub TakesTo : Reading → Sheet-on tree e → ℕ → Type 0
   TakesTo by-rules S q = Takes (S .sheet) e q
-  TakesTo by-run S q = Names (verdict-on S) q
+  TakesTo by-run S q = Names (S .verdict) q
 
   abbrev pub AcceptsIt : Reading → Sheet-on tree e → Type 0
   AcceptsIt by-rules S = Accepts (S .sheet) e
-  AcceptsIt by-run S = (q m : ℕ) × (verdict-on S ≡ accepted q m)
+  AcceptsIt by-run S = (q m : ℕ) × (S .verdict ≡ accepted q m)
 
   abbrev pub NoTwo : Reading → Sheet-on tree e → Type 0
   NoTwo by-rules S = GivesTwo (S .sheet) e → ⊥
-  NoTwo by-run S = (i : ℕ) → verdict-on S ≡ refusal 23 i → ⊥
+  NoTwo by-run S = (i : ℕ) → S .verdict ≡ refusal 23 i → ⊥
 
   -- ---- the two readings are one
 
   takes-read : (u : Reading) (S : Sheet-on tree e) (q : ℕ) → TakesTo u S q ↔ Takes (S .sheet) e q
   takes-read by-rules S q = (λ t. t, λ t. t)
-  takes-read by-run S q = verdict-names (S .words) tree (S .states) (S .passed) (S .over) (S .room) q
+  takes-read by-run S q = rw (S .returned) (verdict-names (S .words) tree (S .states) (S .passed) (S .over) (S .room) q)
 
   accepts-read : (u : Reading) (S : Sheet-on tree e) → AcceptsIt u S ↔ Accepts (S .sheet) e
   accepts-read by-rules S = (λ t. t, λ t. t)
   accepts-read by-run S = (λ t. let (q, m, i) = t in let (h, f) = accepted-is q .0 (m, i) in (q, h, f), λ t. let (q, h, f) = t in let (m, i) = accepted-is q .1 (h, f) in (q, m, i))
     where
-      accepted-is : (q : ℕ) → ((m : ℕ) × (verdict-on S ≡ accepted q m)) ↔ (Takes (S .sheet) e q × (q ∈ S .sheet .final))
-      accepted-is = verdict-accepts (S .words) tree (S .states) (S .passed) (S .over) (S .room)
+      accepted-is : (q : ℕ) → ((m : ℕ) × (S .verdict ≡ accepted q m)) ↔ (Takes (S .sheet) e q × (q ∈ S .sheet .final))
+      accepted-is = rw (S .returned) (verdict-accepts (S .words) tree (S .states) (S .passed) (S .over) (S .room))
 
   two-read : (u : Reading) (S : Sheet-on tree e) → NoTwo u S ↔ (GivesTwo (S .sheet) e → ⊥)
   two-read by-rules S = (λ t. t, λ t. t)
   two-read by-run S = (λ t d. let (i, h) = two-is .1 d in t i h, λ t i h. t (two-is .0 (i, h)))
     where
-      two-is : ((i : ℕ) × (verdict-on S ≡ refusal 23 i)) ↔ GivesTwo (S .sheet) e
-      two-is = verdict-two (S .words) tree (S .states) (S .passed) (S .over) (S .room)
+      two-is : ((i : ℕ) × (S .verdict ≡ refusal 23 i)) ↔ GivesTwo (S .sheet) e
+      two-is = rw (S .returned) (verdict-two (S .words) tree (S .states) (S .passed) (S .over) (S .room))
 
 -- where no node reaches two states, each reaches at most one
 single : (s : Sheet) (e : Element) → (GivesTwo s e → ⊥) → Single (s .rules) (nodes e)
@@ -145,9 +144,9 @@ module _ {tree : List ℕ} {e : Element} (S T J : Sheet-on tree e) (room : ℕ) 
   joint-is = passes-inj (sym (J .passed) ∙ join-passes (S .words) (T .words) room (S .passed) (T .passed) joins .1)
 
   -- Its looks are at most 2 × n × rules of S × rules of T, stuck or not.
-  pub joint-looks : looks-in (verdict-on J) ≤ 2 * size e * (length (S .sheet .rules) * length (T .sheet .rules))
+  pub joint-looks : looks-in (J .verdict) ≤ 2 * size e * (length (S .sheet .rules) * length (T .sheet .rules))
   joint-looks =
-      le-trans (looks-bound (J .words) tree (J .states) (J .passed) (J .over) (J .room))
+      le-trans (rw (J .returned) (looks-bound (J .words) tree (J .states) (J .passed) (J .over) (J .room)))
       (mul-le-mul-left (2 * size e) (subst (λ (j : Sheet). length (j .rules) ≤ length (S .sheet .rules) * length (T .sheet .rules)) (sym joint-is) (joint-rule-count (S .sheet) (T .sheet))))
 
   -- on which neither gives two outcomes

@@ -18,7 +18,6 @@ use Rattle.model.specs.Text.{form-of}
 use Rattle.model.specs.Calls.{names-said, read, read-said, read-tree, from-file, from-file-said, from-file-sheet, verdict-of, judge-said, formcheck}
 use Rattle.model.proofs.CheckLaws.{refuses≢passes, passes-inj, bind-inv, bind-passes, then-inv, then-passes}
 use Rattle.model.proofs.SheetCode.{sheet-passes}
-use Rattle.model.proofs.TreeLaws.{length-wordsD}
 use Rattle.model.proofs.ReadGood.{read-good}
 use Rattle.model.proofs.RoundTrip.{one-size, one-words, room-passes}
 use Rattle.model.proofs.Formcheck.{Presents, judged}
@@ -138,18 +137,10 @@ pub record TreeIn (list s buffer : List ℕ) (n : ℕ) : Type 0 where
 
 module _ (list s : List ℕ) {g : ℕ} (names : names-of list ≡ passes g) where
   pub tree-counted : (tree : List ℕ) {after : List ℕ} {r : Answer} {n : ℕ} → (said r ≡ read-said list s tree) × (after ≡ read-tree list s tree) → r ≡ Count n → TreeIn list s after n
-  unfolding read-said read-tree buffer-after _>>=_
   tree-counted tree {after} {n = n} (e, ea) c =
-      let (d, p, k) = answered.counted sizeD (read list s (length tree)) e c in
+      let (d, p, nodes, front) = answered.read-counted list s tree e ea c in
       let reads = read-inv list s names (length tree) p in
-      let written : after ≡ wordsD d ++ drop (length (wordsD d)) tree = ea ∙ ap (λ c. buffer-after tree (c >>= λ d. passes (wordsD d))) p in
-      record {
-        document = d;
-        reads = reads;
-        nodes = k;
-        few = omega (arith, few-nodes list s names reads);
-        front = ap (take (n * 4)) written ∙ take-at (wordsD d) _ (n * 4) (omega (arith, length-wordsD d));
-      }
+      record { document = d; reads = reads; nodes = nodes; few = omega (arith, few-nodes list s names reads); front = front }
 
   -- by the sheet's words, from whatever file they come
   module _ (file : List ℕ) {sheet : List ℕ} (ok : Passes sheet) (from : file-words file ≡ sheet) where
