@@ -20,13 +20,9 @@ use crate::set::rank;
 use crate::side::Side;
 use crate::side::Sizes;
 use crate::side::half;
-
-// The kinds of steps. A sum is followed by one word in kind 1 and by two in kind 2; kinds 3, 4 and 5 are step numbers.
-const REMAINDER: u32 = 2;
-
-const NOT: u32 = 3;
-
-const AND: u32 = 4;
+use layout::AND;
+use layout::NOT;
+use layout::REMAINDER;
 
 // every number below 64
 const ALL: u64 = 0xFFFF_FFFF_FFFF_FFFF;

@@ -12,16 +12,9 @@ use crate::count::join_counts;
 use crate::count::lift_count;
 use crate::order::lift_order;
 use crate::order::pair_order;
-use crate::page::MOST_WORDS;
 use crate::page::put;
-use crate::rule::CONTENT;
-use crate::rule::COUNT;
 use crate::rule::KEYS;
-use crate::rule::ORDER;
-use crate::rule::ORDER_COUNT;
 use crate::rule::Pairing;
-use crate::rule::TAG;
-use crate::rule::TEXT;
 use crate::rule::count_at;
 use crate::rule::has_count;
 use crate::rule::has_order;
@@ -32,6 +25,13 @@ use crate::rule::wide;
 use crate::side::Side;
 use crate::side::Sizes;
 use crate::side::pair;
+use layout::CONTENT_RULE;
+use layout::COUNT_RULE;
+use layout::MOST_WORDS;
+use layout::ORDER_COUNT_RULE;
+use layout::ORDER_RULE;
+use layout::TAG_RULE;
+use layout::TEXT_RULE;
 
 // Writes the joint rule of two rules of a text.
 fn put_texts(
@@ -46,7 +46,7 @@ fn put_texts(
     requires { ⌜ FewPairs (sizes-of sizes) × ((k s t : ℕ) × RuleAt (sizes .s) (now first) a (one k s) × RuleAt (sizes .t) (now second) b (one k t)) ⌝ }
     ensures { λ r. ⌜ ((k s t : ℕ) → RuleAt (sizes .s) (now (first .entry)) a (one k s) → RuleAt (sizes .t) (now (second .entry)) b (one k t) → Writes (now (out .entry)) at (rule-words (of-pairs (sizes-of sizes)) (one k (pair (sizes .t) s t))) (now (out .exit)) r) ⌝ }
 {
-    let mapped = put(out, at, TEXT);
+    let mapped = put(out, at, TEXT_RULE);
     let kinded = put(out, mapped, first[a + 1]);
     put(out, kinded, pair(sizes.t, first[a + 2], second[b + 2]))
 }
@@ -64,7 +64,7 @@ fn put_tags(
     requires { ⌜ FewPairs (sizes-of sizes) × ((g c d s t : ℕ) × RuleAt (sizes .s) (now first) a (two g c s) × RuleAt (sizes .t) (now second) b (two g d t)) ⌝ }
     ensures { λ r. ⌜ ((g c d s t : ℕ) → RuleAt (sizes .s) (now (first .entry)) a (two g c s) → RuleAt (sizes .t) (now (second .entry)) b (two g d t) → Writes (now (out .entry)) at (rule-words (of-pairs (sizes-of sizes)) (two g (pair (sizes .t) c d) (pair (sizes .t) s t))) (now (out .exit)) r) ⌝ }
 {
-    let mapped = put(out, at, TAG);
+    let mapped = put(out, at, TAG_RULE);
     let named = put(out, mapped, first[a + 1]);
     let inner = put(out, named, pair(sizes.t, first[a + 2], second[b + 2]));
     put(out, inner, pair(sizes.t, first[a + 3], second[b + 3]))
@@ -76,14 +76,14 @@ fn content_map(ordered: bool, counted: bool) -> u32
 {
     if ordered {
         if counted {
-            return ORDER_COUNT;
+            return ORDER_COUNT_RULE;
         }
-        return ORDER;
+        return ORDER_RULE;
     }
     if counted {
-        return COUNT;
+        return COUNT_RULE;
     }
-    CONTENT
+    CONTENT_RULE
 }
 
 // Writes the joint order part of two content rules, if there is one.

@@ -19,24 +19,23 @@ mod set;
 mod sheets;
 mod side;
 
+use layout::MOST_STATES;
+use layout::MOST_WORDS;
+use layout::RULES;
+use layout::STATES;
+use layout::TAGS;
 use limits::MOST_RULES;
 use limits::first_limit;
 use limits::tally_rules;
 use model::Answer;
 use model::Refusal;
-use page::MOST_WORDS;
 use rule::KEYS;
 use rule::chain_rules;
 use rule::find_rules;
-use sheets::RULES;
-use sheets::STATES;
-use sheets::TAGS;
 use sheets::joint_length;
 use sheets::put_joint;
 use sheets::put_swapped;
 use side::Sizes;
-
-const MOST_STATES: u32 = 64;
 
 // the place of a refusal of T's words is that of T's check plus this
 const SECOND: usize = 20000;

@@ -18,17 +18,13 @@ use crate::rule::key_at;
 use crate::rule::pair_up;
 use crate::rule::wide;
 use crate::side::Sizes;
+use layout::MOST_ARCS;
+use layout::MOST_POSITIONS;
+use layout::MOST_STEPS;
 
-// The most rules of a sheet, the most positions, arcs and steps of a rule, and the places by which these limits are told.
-pub(crate) const MOST_RULES: usize = 1024;
+pub(crate) const MOST_RULES: usize = layout::MOST_RULES as usize;
 
-const MOST_POSITIONS: u32 = 64;
-
-const MOST_ARCS: u32 = 1024;
-
-const MOST_STEPS: u32 = 32;
-
-// the limit of states comes before these
+// The places by which the limits are told. That of states comes before these.
 pub(crate) const STATES: usize = 1;
 
 const RULES: usize = 2;

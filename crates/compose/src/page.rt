@@ -4,9 +4,7 @@ ghost use Prim.Native.Nat.{_≤_};
 ghost use lib.ListN.{length};
 ghost use lib.Seq.{slice};
 ghost use Rattle.compose.specs.Page.{Writes};
-
-// the most words of a sheet
-pub(crate) const MOST_WORDS: usize = 16384;
+use layout::MOST_WORDS;
 
 // Writes a word where the buffer has that index, and gives the next one. Past the most words of a sheet nothing is written
 // and the index stays, so that every writer also counts its words, on a buffer without room.

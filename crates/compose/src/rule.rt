@@ -6,22 +6,12 @@ ghost use lib.ListN.{length};
 ghost use Rattle.model.specs.Sheet.{Rule, rule-words};
 ghost use Rattle.compose.specs.Rules.{RuleAt, RulesAt, Starts, Content, content, ordered, counted, order-part, PairedAs, key, Chained};
 use crate::count::steps_end;
-
-// The maps of the rules: of a text, of a tag, and of content, with an order part, a count part or both.
-pub(crate) const TEXT: u32 = 33;
-
-pub(crate) const TAG: u32 = 38;
-
-pub(crate) const CONTENT: u32 = 32;
-
-pub(crate) const ORDER: u32 = 40;
-
-pub(crate) const COUNT: u32 = 48;
-
-pub(crate) const ORDER_COUNT: u32 = 56;
-
-// where the rules of a sheet begin
-const FIRST_RULE: usize = 6;
+use layout::COUNT_RULE;
+use layout::FIRST_RULE;
+use layout::ORDER_COUNT_RULE;
+use layout::ORDER_RULE;
+use layout::TAG_RULE;
+use layout::TEXT_RULE;
 
 // the keys of the rules: 0 for content, 1 and 2 for the two kinds of text, 3 to 66 for the tags
 pub(crate) const KEYS: usize = 67;
@@ -41,13 +31,13 @@ pub(crate) enum Pairing {
 pub(crate) fn has_order(map: u32) -> bool
     ensures { λ r. ⌜ r ≡ ordered map ⌝ }
 {
-    (map == ORDER) | (map == ORDER_COUNT)
+    (map == ORDER_RULE) | (map == ORDER_COUNT_RULE)
 }
 
 pub(crate) fn has_count(map: u32) -> bool
     ensures { λ r. ⌜ r ≡ counted map ⌝ }
 {
-    (map == COUNT) | (map == ORDER_COUNT)
+    (map == COUNT_RULE) | (map == ORDER_COUNT_RULE)
 }
 
 // Where the count part of the content rule at `a` stands, or would stand.
@@ -67,10 +57,10 @@ pub(crate) fn target_at(words: &[u32], a: usize) -> usize
     ensures { λ r. ⌜ ((p : ℕ) (x : Rule) → RuleAt p (now (words .entry)) a x → r + 1 ≡ a + length (rule-words p x)) ⌝ }
 {
     let map = words[a];
-    if map == TEXT {
+    if map == TEXT_RULE {
         return a + 2;
     }
-    if map == TAG {
+    if map == TAG_RULE {
         return a + 3;
     }
     let c = count_at(words, a);
@@ -88,19 +78,19 @@ pub(crate) fn pair_up(first: &[u32], a: usize, second: &[u32], b: usize) -> Pair
     let m = first[a];
     let n = second[b];
     let same = first[a + 1] == second[b + 1];
-    if m == TEXT {
-        if (n == TEXT) & same {
+    if m == TEXT_RULE {
+        if (n == TEXT_RULE) & same {
             return Pairing::Texts;
         }
         return Pairing::Apart;
     }
-    if m == TAG {
-        if (n == TAG) & same {
+    if m == TAG_RULE {
+        if (n == TAG_RULE) & same {
             return Pairing::Tags;
         }
         return Pairing::Apart;
     }
-    if (n == TEXT) | (n == TAG) {
+    if (n == TEXT_RULE) | (n == TAG_RULE) {
         return Pairing::Apart;
     }
     Pairing::Contents
@@ -112,10 +102,10 @@ pub(crate) fn key_at(words: &[u32], a: usize) -> usize
     ensures { λ r. ⌜ ((p : ℕ) (x : Rule) → RuleAt p (now (words .entry)) a x → r ≡ key x) × (r < 67) ⌝ }
 {
     let map = words[a];
-    if map == TEXT {
+    if map == TEXT_RULE {
         return words[a + 1] as usize;
     }
-    if map == TAG {
+    if map == TAG_RULE {
         return TEXT_KINDS + words[a + 1] as usize;
     }
     CONTENT_KEY

@@ -17,18 +17,10 @@ use crate::set::pair_set;
 use crate::set::put_set;
 use crate::set::turned;
 use crate::side::Sizes;
-
-// the first word of every sheet
-const EDITION: u32 = 1;
-
-// Where the words of a sheet stand that come before its rules.
-pub(crate) const STATES: usize = 1;
-
-const FINAL: usize = 2;
-
-pub(crate) const TAGS: usize = 4;
-
-pub(crate) const RULES: usize = 5;
+use layout::EDITION;
+use layout::FINAL;
+use layout::STATES;
+use layout::TAGS;
 
 // The set of a sheet's final states.
 fn final_states(sheet: &[u32]) -> u64

@@ -1,12 +1,12 @@
 // Document 01's cases 7 to 9, and a joint sheet whose halves take different forms.
-use crate::parts::AND;
-use crate::parts::AT_MOST;
-use crate::parts::CONTENT;
-use crate::parts::COUNT;
-use crate::parts::MINUS_ONE;
-use crate::parts::ORDER;
-use crate::parts::TAG;
-use crate::parts::TEXT;
+use layout::AND;
+use layout::AT_MOST;
+use layout::CONTENT_RULE;
+use layout::COUNT_RULE;
+use layout::MINUS_ONE;
+use layout::ORDER_RULE;
+use layout::TAG_RULE;
+use layout::TEXT_RULE;
 use rows::add;
 
 // Trees over the tags ct, oven, site, units: cases 1, 2 and 3, and a site with its sensor before its oven.
@@ -25,10 +25,10 @@ const T_WORDS: usize = 30;
 // Document 01's S.
 fn counting(sheet: &mut [u32]) {
     let mut n = add(sheet, 0, &[1, 5, 16, 0, 4, 6]);
-    n = add(sheet, n, &[TEXT, 2, 0]);
-    n = add(sheet, n, &[TAG, 1, 0, 1, TAG, 2, 0, 2]);
-    n = add(sheet, n, &[TAG, 4, 0, 3, TAG, 3, 0, 4]);
-    n = add(sheet, n, &[COUNT, 3, AT_MOST, 6, 0, 1, MINUS_ONE, 0]);
+    n = add(sheet, n, &[TEXT_RULE, 2, 0]);
+    n = add(sheet, n, &[TAG_RULE, 1, 0, 1, TAG_RULE, 2, 0, 2]);
+    n = add(sheet, n, &[TAG_RULE, 4, 0, 3, TAG_RULE, 3, 0, 4]);
+    n = add(sheet, n, &[COUNT_RULE, 3, AT_MOST, 6, 0, 1, MINUS_ONE, 0]);
     n = add(sheet, n, &[AT_MOST, 6, 0, MINUS_ONE, 1, 0]);
     add(sheet, n, &[AND, 0, 1, 0]);
 }
@@ -36,10 +36,10 @@ fn counting(sheet: &mut [u32]) {
 // Document 01's T: one state, final, and seven rules that take everything to it.
 fn taking_all(sheet: &mut [u32]) {
     let mut n = add(sheet, 0, &[1, 1, 1, 0, 4, 7]);
-    n = add(sheet, n, &[TEXT, 1, 0, TEXT, 2, 0]);
-    n = add(sheet, n, &[TAG, 1, 0, 0, TAG, 2, 0, 0]);
-    n = add(sheet, n, &[TAG, 3, 0, 0, TAG, 4, 0, 0]);
-    add(sheet, n, &[CONTENT, 0]);
+    n = add(sheet, n, &[TEXT_RULE, 1, 0, TEXT_RULE, 2, 0]);
+    n = add(sheet, n, &[TAG_RULE, 1, 0, 0, TAG_RULE, 2, 0, 0]);
+    n = add(sheet, n, &[TAG_RULE, 3, 0, 0, TAG_RULE, 4, 0, 0]);
+    add(sheet, n, &[CONTENT_RULE, 0]);
 }
 
 const ORDERING_WORDS: usize = 34;
@@ -47,10 +47,10 @@ const ORDERING_WORDS: usize = 34;
 // A site with all its ovens before the rest. States: 0 content, 1 an oven, 2 a sensor or units, 3 a site, which is final.
 fn ordering(sheet: &mut [u32]) {
     let mut n = add(sheet, 0, &[1, 4, 8, 0, 4, 6]);
-    n = add(sheet, n, &[TEXT, 2, 0]);
-    n = add(sheet, n, &[TAG, 1, 0, 2, TAG, 2, 0, 1]);
-    n = add(sheet, n, &[TAG, 4, 0, 2, TAG, 3, 0, 3]);
-    n = add(sheet, n, &[ORDER, 2, 3, 0, 3]);
+    n = add(sheet, n, &[TEXT_RULE, 2, 0]);
+    n = add(sheet, n, &[TAG_RULE, 1, 0, 2, TAG_RULE, 2, 0, 1]);
+    n = add(sheet, n, &[TAG_RULE, 4, 0, 2, TAG_RULE, 3, 0, 3]);
+    n = add(sheet, n, &[ORDER_RULE, 2, 3, 0, 3]);
     add(sheet, n, &[0x000100, 0x000201, 0x010201, 0]);
 }
 

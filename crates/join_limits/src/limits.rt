@@ -1,20 +1,18 @@
 // Refusal 21: joint sheets within their limits and just over them, in the order of its places.
-use crate::parts::AT_MOST;
-use crate::parts::CONTENT;
-use crate::parts::COUNT;
-use crate::parts::ORDER;
-use crate::parts::ORDER_COUNT;
-use crate::parts::TAG;
-use crate::parts::TEXT;
 use crate::parts::alike;
 use crate::parts::repeat;
+use layout::AT_MOST;
+use layout::CONTENT_RULE;
+use layout::COUNT_RULE;
+use layout::MOST_WORDS;
+use layout::ORDER_COUNT_RULE;
+use layout::ORDER_RULE;
+use layout::TAG_RULE;
+use layout::TEXT_RULE;
 use rows::add;
 
-// the most words of a sheet
-const MOST_WORDS: usize = 16384;
-
 // a sheet with a content rule that has no part
-const PLAIN: [u32; 8] = [1, 1, 0, 0, 1, 1, CONTENT, 0];
+const PLAIN: [u32; 8] = [1, 1, 0, 0, 1, 1, CONTENT_RULE, 0];
 
 // Joins two sheets into a buffer with room for any sheet.
 fn join(what: &[u8], first: &[u32], second: &[u32]) {
@@ -41,23 +39,23 @@ fn states() {
 
 fn contents() {
     let mut s = [0u32; 70];
-    alike(&mut s, 1, 32, &[CONTENT, 0]);
+    alike(&mut s, 1, 32, &[CONTENT_RULE, 0]);
     join(b"32 and 32 content rules", &s, &s);
     let mut more = [0u32; 88];
-    alike(&mut more, 1, 41, &[CONTENT, 0]);
+    alike(&mut more, 1, 41, &[CONTENT_RULE, 0]);
     let mut t = [0u32; 56];
-    alike(&mut t, 1, 25, &[CONTENT, 0]);
+    alike(&mut t, 1, 25, &[CONTENT_RULE, 0]);
     join(b"41 and 25 content rules", &more, &t);
     let mut most = [0u32; 2054];
-    alike(&mut most, 1, 1024, &[CONTENT, 0]);
+    alike(&mut most, 1, 1024, &[CONTENT_RULE, 0]);
     join(b"1,024 and 1,024 content rules", &most, &most);
 }
 
 // 32 content rules and one of a text
 fn with_text(sheet: &mut [u32], kind: u32) {
     let n = add(sheet, 0, &[1, 1, 0, 0, 1, 33]);
-    let m = repeat(sheet, n, 32, &[CONTENT, 0]);
-    add(sheet, m, &[TEXT, kind, 0]);
+    let m = repeat(sheet, n, 32, &[CONTENT_RULE, 0]);
+    add(sheet, m, &[TEXT_RULE, kind, 0]);
 }
 
 fn texts_and_tags() {
@@ -68,14 +66,14 @@ fn texts_and_tags() {
     join(b"32 and 32, and texts that do not pair", &integer, &other);
     join(b"32 and 32, and texts that pair", &integer, &integer);
     let mut texts = [0u32; 3078];
-    alike(&mut texts, 1, 1024, &[TEXT, 1, 0]);
+    alike(&mut texts, 1, 1024, &[TEXT_RULE, 1, 0]);
     let mut tags = [0u32; 4102];
-    alike(&mut tags, 1, 1024, &[TAG, 1, 0, 0]);
+    alike(&mut tags, 1, 1024, &[TAG_RULE, 1, 0, 0]);
     join(b"1,024 rules of a text and 1,024 of a tag", &texts, &tags);
     join(
         b"1,024 rules of a tag and 1",
         &tags,
-        &[1u32, 1, 0, 0, 1, 1, TAG, 1, 0, 0],
+        &[1u32, 1, 0, 0, 1, 1, TAG_RULE, 1, 0, 0],
     );
     join(b"1,024 and 1,024 rules of a text", &texts, &texts);
 }
@@ -86,8 +84,8 @@ fn texts_and_tags() {
 fn positions(what: &[u8], m: u32, n: u32) {
     join(
         what,
-        &[1u32, 1, 0, 0, 1, 1, ORDER, m, 0, 0, 0, 0],
-        &[1u32, 1, 0, 0, 1, 1, ORDER, n, 0, 0, 0, 0],
+        &[1u32, 1, 0, 0, 1, 1, ORDER_RULE, m, 0, 0, 0, 0],
+        &[1u32, 1, 0, 0, 1, 1, ORDER_RULE, n, 0, 0, 0, 0],
     );
 }
 
@@ -97,7 +95,7 @@ fn all_positions() {
     positions(b"5 and 13 positions", 5, 13);
     positions(b"64 and 64 positions", 64, 64);
     let mut s = [0u32; 18];
-    alike(&mut s, 1, 2, &[ORDER, 64, 0, 0, 0, 0]);
+    alike(&mut s, 1, 2, &[ORDER_RULE, 64, 0, 0, 0, 0]);
     join(b"64 positions alone, twice", &s, &PLAIN);
 }
 
@@ -105,7 +103,7 @@ fn all_positions() {
 
 // A sheet with a rule of so many arcs, in zeros: its arcs and its target are 0.
 fn arcs(sheet: &mut [u32], n: u32) {
-    add(sheet, 0, &[1, 1, 0, 0, 1, 1, ORDER, 1, 1, 0, n]);
+    add(sheet, 0, &[1, 1, 0, 0, 1, 1, ORDER_RULE, 1, 1, 0, n]);
 }
 
 fn pairs_of_arcs() {
@@ -122,12 +120,12 @@ fn pairs_of_arcs() {
     join(
         b"1,024 arcs and 1",
         &most,
-        &[1u32, 1, 0, 0, 1, 1, ORDER, 1, 1, 0, 1, 0, 0],
+        &[1u32, 1, 0, 0, 1, 1, ORDER_RULE, 1, 1, 0, 1, 0, 0],
     );
     join(
         b"1,024 arcs and none",
         &most,
-        &[1u32, 1, 0, 0, 1, 1, ORDER, 1, 1, 0, 0, 0],
+        &[1u32, 1, 0, 0, 1, 1, ORDER_RULE, 1, 1, 0, 0, 0],
     );
     join(b"1,024 and 1,024 arcs", &most, &most);
 }
@@ -138,11 +136,11 @@ fn arcs_alone() {
     join(
         b"16 arcs alone beside 64 states",
         &s,
-        &[1u32, 64, 0, 0, 1, 1, CONTENT, 63],
+        &[1u32, 64, 0, 0, 1, 1, CONTENT_RULE, 63],
     );
     join(
         b"64 states beside 16 arcs alone",
-        &[1u32, 64, 0, 0, 1, 1, CONTENT, 63],
+        &[1u32, 64, 0, 0, 1, 1, CONTENT_RULE, 63],
         &s,
     );
     let mut t = [0u32; 53];
@@ -150,11 +148,11 @@ fn arcs_alone() {
     join(
         b"41 arcs alone beside 25 states",
         &t,
-        &[1u32, 25, 0, 0, 1, 1, CONTENT, 24],
+        &[1u32, 25, 0, 0, 1, 1, CONTENT_RULE, 24],
     );
     join(
         b"25 states beside 41 arcs alone",
-        &[1u32, 25, 0, 0, 1, 1, CONTENT, 24],
+        &[1u32, 25, 0, 0, 1, 1, CONTENT_RULE, 24],
         &t,
     );
 }
@@ -163,7 +161,7 @@ fn arcs_alone() {
 
 // A sheet with a rule of so many steps, in zeros: its target is 0.
 fn steps(sheet: &mut [u32], n: u32) {
-    let m = add(sheet, 0, &[1, 1, 0, 0, 1, 1, COUNT, n]);
+    let m = add(sheet, 0, &[1, 1, 0, 0, 1, 1, COUNT_RULE, n]);
     repeat(sheet, m, n, &[AT_MOST, 0, 0, 0]);
 }
 
@@ -193,17 +191,17 @@ fn coefficients(sheet: &mut [u32], rules: u32, tags: u32, texts: u32) {
         sheet,
         n,
         10,
-        &[COUNT, 1, AT_MOST, 255, 0, 1, 2, 3, 4, 5, 6, 7, 8, 0, 0],
+        &[COUNT_RULE, 1, AT_MOST, 255, 0, 1, 2, 3, 4, 5, 6, 7, 8, 0, 0],
     );
-    n = repeat(sheet, n, tags, &[TAG, 1, 0, 1]);
-    repeat(sheet, n, texts, &[TEXT, 1, 0]);
+    n = repeat(sheet, n, tags, &[TAG_RULE, 1, 0, 1]);
+    repeat(sheet, n, texts, &[TEXT_RULE, 1, 0]);
 }
 
 fn plain(sheet: &mut [u32]) {
     let mut n = add(sheet, 0, &[1, 8, 1, 0, 1, 25]);
-    n = repeat(sheet, n, 23, &[CONTENT, 0]);
-    n = add(sheet, n, &[TAG, 1, 0, 0]);
-    add(sheet, n, &[TEXT, 1, 0]);
+    n = repeat(sheet, n, 23, &[CONTENT_RULE, 0]);
+    n = add(sheet, n, &[TAG_RULE, 1, 0, 0]);
+    add(sheet, n, &[TEXT_RULE, 1, 0]);
 }
 
 fn most_words() {
@@ -233,7 +231,7 @@ fn more_words() {
     coefficients(&mut more, 23, 10, 3);
     join(b"16,385 words", &more, &t);
     let mut many = [0u32; 206];
-    alike(&mut many, 8, 100, &[CONTENT, 0]);
+    alike(&mut many, 8, 100, &[CONTENT_RULE, 0]);
     join(b"1,000 rules of 71 words", &more, &many);
 }
 
@@ -241,30 +239,30 @@ fn more_words() {
 
 fn first_limits() {
     let mut s = [0u32; 88];
-    alike(&mut s, 5, 41, &[CONTENT, 0]);
+    alike(&mut s, 5, 41, &[CONTENT_RULE, 0]);
     let mut t = [0u32; 56];
-    alike(&mut t, 13, 25, &[CONTENT, 0]);
+    alike(&mut t, 13, 25, &[CONTENT_RULE, 0]);
     join(b"65 states, 1,025 rules", &s, &t);
     let mut long = [0u32; 252];
-    alike(&mut long, 1, 41, &[ORDER, 5, 0, 0, 0, 0]);
+    alike(&mut long, 1, 41, &[ORDER_RULE, 5, 0, 0, 0, 0]);
     let mut other = [0u32; 156];
-    alike(&mut other, 1, 25, &[ORDER, 13, 0, 0, 0, 0]);
+    alike(&mut other, 1, 25, &[ORDER_RULE, 13, 0, 0, 0, 0]);
     join(b"1,025 rules, 65 positions", &long, &other);
 }
 
 // A sheet with a rule of so many positions, two arcs and one step.
 fn two_arcs(sheet: &mut [u32], positions: u32) {
     let n = add(sheet, 0, &[1, 1, 0, 0, 1, 1]);
-    let m = add(sheet, n, &[ORDER_COUNT, positions, 0, 0, 2, 0, 0]);
+    let m = add(sheet, n, &[ORDER_COUNT_RULE, positions, 0, 0, 2, 0, 0]);
     add(sheet, m, &[1, AT_MOST, 0, 0, 0, 0]);
 }
 
 // Joins a rule of 32 steps, and then one of 64 positions and 1,024 arcs.
 fn late_limits() {
     let mut s = [0u32; 1167];
-    let mut n = add(&mut s, 0, &[1, 1, 0, 0, 1, 2, COUNT, 32]);
+    let mut n = add(&mut s, 0, &[1, 1, 0, 0, 1, 2, COUNT_RULE, 32]);
     n = repeat(&mut s, n, 32, &[AT_MOST, 0, 0, 0]);
-    add(&mut s, n, &[0, ORDER, 64, 0, 0, 1024]);
+    add(&mut s, n, &[0, ORDER_RULE, 64, 0, 0, 1024]);
     let mut t = [0u32; 13];
     steps(&mut t, 1);
     join(b"34 steps", &s, &t);

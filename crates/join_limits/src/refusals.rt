@@ -1,7 +1,7 @@
 // Refusals 9, 20 and 22 of swapping and joining, and their order.
-use crate::parts::CONTENT;
-use crate::parts::ORDER;
 use crate::parts::alike;
+use layout::CONTENT_RULE;
+use layout::ORDER_RULE;
 
 // a sheet without rules, one with a word short, and some with a word out of its range
 const BARE: [u32; 6] = [1, 2, 2, 0, 1, 0];
@@ -18,7 +18,7 @@ const TWO_TAGS: [u32; 6] = [1, 2, 2, 0, 2, 0];
 const MANY_STATES: [u32; 6] = [1, 33, 0, 0, 2, 0];
 
 // a sheet with a content rule that has no part
-const PLAIN: [u32; 8] = [1, 1, 0, 0, 1, 1, CONTENT, 0];
+const PLAIN: [u32; 8] = [1, 1, 0, 0, 1, 1, CONTENT_RULE, 0];
 
 // ---- joining
 
@@ -58,7 +58,7 @@ fn order() {
 
 // Joins a sheet of 8 words with itself, which are 8 words again.
 fn room() {
-    let s = [1u32, 2, 2, 0, 1, 1, CONTENT, 1];
+    let s = [1u32, 2, 2, 0, 1, 1, CONTENT_RULE, 1];
     join_without_room(b"8 words, no room", &s, &s);
     let mut few = [7u32; 7];
     join_into(b"8 words, room for 7", &s, &s, &mut few);
@@ -112,7 +112,27 @@ fn swapped_states() {
 
 // ---- 16,384 words: 862 rules of 19 words
 
-const RULE: [u32; 19] = [ORDER, 1, 1, 0, 13, 0, 0, 0, 0, 0, 0, 0, 0, 0, 0, 0, 0, 0, 0];
+const RULE: [u32; 19] = [
+    ORDER_RULE,
+    1,
+    1,
+    0,
+    13,
+    0,
+    0,
+    0,
+    0,
+    0,
+    0,
+    0,
+    0,
+    0,
+    0,
+    0,
+    0,
+    0,
+    0,
+];
 
 fn most_words() {
     let mut most = [0u32; 16384];

@@ -1,16 +1,16 @@
 // The words of joint sheets. S has 2 states, of which 1 is final, T has 3, of which 0 and 2 are: the final pairs are 3 and 5. An arc
 // is the position that it leaves, the state that it reads and the position that it enters, of two hexadecimal digits each.
-use crate::parts::AT_MOST;
-use crate::parts::CONTENT;
-use crate::parts::COUNT;
-use crate::parts::MINUS_ONE;
-use crate::parts::NOT;
-use crate::parts::OR;
-use crate::parts::ORDER;
-use crate::parts::ORDER_COUNT;
-use crate::parts::REMAINDER;
-use crate::parts::TAG;
-use crate::parts::TEXT;
+use layout::AT_MOST;
+use layout::CONTENT_RULE;
+use layout::COUNT_RULE;
+use layout::MINUS_ONE;
+use layout::NOT;
+use layout::OR;
+use layout::ORDER_COUNT_RULE;
+use layout::ORDER_RULE;
+use layout::REMAINDER;
+use layout::TAG_RULE;
+use layout::TEXT_RULE;
 use rows::add;
 
 // what comes before the one rule of S and of T
@@ -19,9 +19,9 @@ const S_HEAD: [u32; 6] = [1, 2, 2, 0, 1, 1];
 const T_HEAD: [u32; 6] = [1, 3, 5, 0, 1, 1];
 
 // S and T with a rule that has no part
-const S_PLAIN: [u32; 8] = [1, 2, 2, 0, 1, 1, CONTENT, 1];
+const S_PLAIN: [u32; 8] = [1, 2, 2, 0, 1, 1, CONTENT_RULE, 1];
 
-const T_PLAIN: [u32; 8] = [1, 3, 5, 0, 1, 1, CONTENT, 2];
+const T_PLAIN: [u32; 8] = [1, 3, 5, 0, 1, 1, CONTENT_RULE, 2];
 
 const S_ORDER: usize = 14;
 
@@ -42,38 +42,38 @@ fn joint(what: &[u8], first: &[u32], second: &[u32], out: &mut [u32]) {
 fn texts_and_tags() {
     let mut s = [0u32; 18];
     let mut n = add(&mut s, 0, &[1, 2, 2, 0, 2, 4]);
-    n = add(&mut s, n, &[TEXT, 1, 0]);
-    n = add(&mut s, n, &[TEXT, 2, 1]);
-    n = add(&mut s, n, &[TAG, 1, 1, 0]);
-    add(&mut s, n, &[CONTENT, 1]);
+    n = add(&mut s, n, &[TEXT_RULE, 1, 0]);
+    n = add(&mut s, n, &[TEXT_RULE, 2, 1]);
+    n = add(&mut s, n, &[TAG_RULE, 1, 1, 0]);
+    add(&mut s, n, &[CONTENT_RULE, 1]);
     let mut t = [0u32; 22];
     n = add(&mut t, 0, &[1, 3, 5, 0, 2, 5]);
-    n = add(&mut t, n, &[CONTENT, 2]);
-    n = add(&mut t, n, &[TEXT, 2, 2]);
-    n = add(&mut t, n, &[TAG, 2, 0, 0]);
-    n = add(&mut t, n, &[TAG, 1, 2, 1]);
-    add(&mut t, n, &[TEXT, 2, 0]);
+    n = add(&mut t, n, &[CONTENT_RULE, 2]);
+    n = add(&mut t, n, &[TEXT_RULE, 2, 2]);
+    n = add(&mut t, n, &[TAG_RULE, 2, 0, 0]);
+    n = add(&mut t, n, &[TAG_RULE, 1, 2, 1]);
+    add(&mut t, n, &[TEXT_RULE, 2, 0]);
     let mut out = [0u32; 18];
     joint(b"texts, tags and contents", &s, &t, &mut out);
 }
 
 fn ordered_s(s: &mut [u32]) {
     let mut n = add(s, 0, &S_HEAD);
-    n = add(s, n, &[ORDER, 2, 2, 0, 2]);
+    n = add(s, n, &[ORDER_RULE, 2, 2, 0, 2]);
     n = add(s, n, &[0x000101, 0x010001]);
     add(s, n, &[1]);
 }
 
 fn ordered_t(t: &mut [u32]) {
     let mut n = add(t, 0, &T_HEAD);
-    n = add(t, n, &[ORDER, 3, 4, 0, 2]);
+    n = add(t, n, &[ORDER_RULE, 3, 4, 0, 2]);
     n = add(t, n, &[0x000201, 0x010002]);
     add(t, n, &[0]);
 }
 
 fn counted_s(s: &mut [u32]) {
     let mut n = add(s, 0, &S_HEAD);
-    n = add(s, n, &[COUNT, 2]);
+    n = add(s, n, &[COUNT_RULE, 2]);
     n = add(s, n, &[AT_MOST, 2, 0, MINUS_ONE, 4]);
     n = add(s, n, &[NOT, 0]);
     add(s, n, &[1]);
@@ -81,7 +81,7 @@ fn counted_s(s: &mut [u32]) {
 
 fn counted_t(t: &mut [u32]) {
     let mut n = add(t, 0, &T_HEAD);
-    n = add(t, n, &[COUNT, 3]);
+    n = add(t, n, &[COUNT_RULE, 3]);
     n = add(t, n, &[REMAINDER, 5, 0, 2, 3, 7, 1]);
     n = add(t, n, &[AT_MOST, 0, 0, 0]);
     n = add(t, n, &[OR, 0, 1]);
@@ -126,12 +126,12 @@ fn orders_and_counts() {
 fn both_of_both() {
     let mut s = [0u32; 19];
     let mut n = add(&mut s, 0, &S_HEAD);
-    n = add(&mut s, n, &[ORDER_COUNT, 1, 1, 0, 1, 0x000100]);
+    n = add(&mut s, n, &[ORDER_COUNT_RULE, 1, 1, 0, 1, 0x000100]);
     n = add(&mut s, n, &[1, AT_MOST, 2, 0, MINUS_ONE, 4]);
     add(&mut s, n, &[1]);
     let mut t = [0u32; 20];
     n = add(&mut t, 0, &T_HEAD);
-    n = add(&mut t, n, &[ORDER_COUNT, 1, 1, 0, 1, 0x000200]);
+    n = add(&mut t, n, &[ORDER_COUNT_RULE, 1, 1, 0, 1, 0x000200]);
     n = add(&mut t, n, &[1, REMAINDER, 4, 0, 2, 7, 1]);
     add(&mut t, n, &[2]);
     let mut out = [0u32; 31];

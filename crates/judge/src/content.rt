@@ -13,13 +13,13 @@ ghost use Rattle.judge.specs.Index.{rules-in, rules-of, ThreeAt, ThreeIn
 ghost use Rattle.judge.specs.Found.{Tries, Finds};
 use crate::count::count_fits;
 use crate::count::occurrences;
-use crate::index::COUNTED;
-use crate::index::ORDERED;
-use crate::index::PLAIN;
 use crate::index::UPPER;
 use crate::index::order_end;
 use crate::order::read_order;
 use crate::wide;
+use layout::CONTENT_RULE;
+use layout::COUNT_RULE;
+use layout::ORDER_RULE;
 
 // Whether a rule fits, and how many children it reads.
 struct Tried {
@@ -36,18 +36,18 @@ fn try_rule(sheet: &[u32], at: usize, target: usize, words: &[u32], counts: &[u3
 {
     let part = at + 1;
     match sheet[at] {
-        PLAIN => Tried {
+        CONTENT_RULE => Tried {
             fits: true,
             reads: words.len(),
         },
-        ORDERED => {
+        ORDER_RULE => {
             let order = read_order(&sheet[part..target], words);
             Tried {
                 fits: order.fits,
                 reads: wide(order.reads),
             }
         }
-        COUNTED => Tried {
+        COUNT_RULE => Tried {
             fits: count_fits(&sheet[part..target], counts),
             reads: words.len(),
         },

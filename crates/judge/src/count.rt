@@ -9,19 +9,13 @@ ghost use lib.IntN.{pos, natAbs, _+ℤ_, _*ℤ_};
 ghost use Rattle.model.specs.Sheet.{bit};
 ghost use Rattle.model.specs.Words.{«fits-count»};
 ghost use Rattle.judge.specs.Parts.{StateWords, «states-of», Occurs, Counts, CountPart, SumAt, Summed, StepAt, Truths, Judged};
+use layout::AND;
+use layout::AT_MOST;
+use layout::NOT;
+use layout::OR;
+use layout::REMAINDER;
 
 pub(crate) const STATES: usize = 64;
-
-// kinds of steps
-const AT_MOST: u32 = 1;
-
-const REMAINDER: u32 = 2;
-
-const NOT: u32 = 3;
-
-const AND: u32 = 4;
-
-const OR: u32 = 5;
 
 // A sum, and the place past its words.
 struct Sum {

@@ -8,23 +8,16 @@ ghost use Rattle.model.proofs.Spans.{Along};
 ghost use Rattle.judge.specs.Parts.{SumAt, StepAt};
 ghost use Rattle.judge.specs.Index.{rules-in, rules-of, Passes, TwoIn, Indexed, Chained, OrderAt, CountAt, ThreeAt};
 use crate::wide;
-
-// where a sheet says how many rules it has, and where they begin
-const RULES: usize = 5;
-
-const FIRST_RULE: usize = 6;
-
-// the maps of rules of kinds one and two
-const TEXT_RULE: u32 = 33;
-
-const TAG_RULE: u32 = 38;
-
-// the maps of kind-three rules: a target; an order part before it; a count part before it; or both
-pub(crate) const PLAIN: u32 = 32;
-
-pub(crate) const ORDERED: u32 = 40;
-
-pub(crate) const COUNTED: u32 = 48;
+use layout::AT_MOST;
+use layout::CONTENT_RULE;
+use layout::COUNT_RULE;
+use layout::FIRST_RULE;
+use layout::NOT;
+use layout::ORDER_RULE;
+use layout::REMAINDER;
+use layout::RULES;
+use layout::TAG_RULE;
+use layout::TEXT_RULE;
 
 // the lowest of the upper 16 bits of a word
 pub(crate) const UPPER: usize = 65536;
@@ -55,9 +48,9 @@ fn step_end(sheet: &[u32], at: usize) -> usize
     ensures { λ r. ⌜ ((t : StepAt (now (sheet .entry)) at) → r ≡ t .next) ⌝ }
 {
     match sheet[at] {
-        1 => sum_end(sheet, at + 1) + 1,
-        2 => sum_end(sheet, at + 1) + 2,
-        3 => at + 2,
+        AT_MOST => sum_end(sheet, at + 1) + 1,
+        REMAINDER => sum_end(sheet, at + 1) + 2,
+        NOT => at + 2,
         _ => at + 3,
     }
 }
@@ -83,9 +76,9 @@ fn target_at(sheet: &[u32], at: usize) -> usize
     ensures { λ x. ⌜ ((r : Rule) (e : ℕ) → ThreeAt (now (sheet .entry)) true at e r → x ≡ e) ⌝ }
 {
     match sheet[at] {
-        PLAIN => at + 1,
-        ORDERED => order_end(sheet, at + 1),
-        COUNTED => count_end(sheet, at + 1),
+        CONTENT_RULE => at + 1,
+        ORDER_RULE => order_end(sheet, at + 1),
+        COUNT_RULE => count_end(sheet, at + 1),
         _ => count_end(sheet, order_end(sheet, at + 1)),
     }
 }
@@ -135,7 +128,7 @@ pub(crate) fn index_rules(
                 let target = target_at(sheet, at);
                 threes[c] = (target * UPPER + at) as u32;
                 c += 1;
-                counted = counted | (COUNTED <= map);
+                counted = counted | (COUNT_RULE <= map);
                 at = target + 1;
                 i += 1;
             }

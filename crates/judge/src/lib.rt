@@ -18,6 +18,8 @@ mod run;
 mod targets;
 
 use index::index_rules;
+use layout::MOST_NODES;
+use layout::TAGS;
 use model::Answer;
 use model::Judgement;
 use model::Refusal;
@@ -25,12 +27,7 @@ use run::Outcome;
 use run::run;
 use run::verdict;
 
-const MOST_RULES: usize = 1024;
-
-const MOST_NODES: usize = 4096;
-
-// where a sheet says how many tags it has
-const TAGS: usize = 4;
+const MOST_RULES: usize = layout::MOST_RULES as usize;
 
 pub(crate) fn wide(x: u32) -> usize
     ensures { λ r. ⌜ r ≡ x ⌝ }

@@ -16,12 +16,8 @@ use crate::index::HEADS;
 use crate::targets::tag_targets;
 use crate::targets::text_targets;
 use crate::wide;
-
-// words to a node
-const NODE: usize = 4;
-
-// symbols above these are texts, of a kind that is the rest
-const MOST_TAGS: u32 = 64;
+use layout::MOST_TAGS;
+use layout::NODE_WORDS;
 
 // The children of a node: one of them has no state, or all of them have one, and this is their number.
 enum Children {
@@ -34,7 +30,7 @@ fn size_at(tree: &[u32], i: usize) -> usize
     requires { ⌜ 4 * (i + 1) ≤ length (now tree) ⌝ }
     ensures { λ r. ⌜ r ≡ size-at (now (tree .entry)) i ⌝ }
 {
-    wide(tree[NODE * i + 1])
+    wide(tree[NODE_WORDS * i + 1])
 }
 
 // The state words of the elements side by side from node `first` up to node `end`, to the front of `words`.
@@ -145,7 +141,8 @@ pub(crate) fn node(
     ensures { λ f. ⌜ Finds (2 ^ 43) (f .targets) (f .looks) (node-targets (rules-in (now (sheet .entry))) (now (tree .entry)) (now (states .entry)) i)
         (node-looks (rules-in (now (sheet .entry))) (now (tree .entry)) (now (states .entry)) i) ⌝ }
 {
-    let symbol = tree[NODE * i];
+    let symbol = tree[NODE_WORDS * i];
+    // symbols above those of tags are texts, of a kind that is the rest
     if MOST_TAGS < symbol {
         return Found {
             targets: text_targets(sheet, ones, symbol - MOST_TAGS),

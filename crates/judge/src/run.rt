@@ -13,6 +13,7 @@ use crate::content::content;
 use crate::index::HEADS;
 use crate::index::chain_tags;
 use crate::node::node;
+use layout::FINAL;
 use model::Judgement;
 
 // the state word of a node that reaches no state; a state's is one more than the state
@@ -20,9 +21,6 @@ const NO_STATE: u32 = 0;
 
 // no state word: two states or more
 const SEVERAL: u32 = 65;
-
-// where a sheet has its final states
-const FINAL: usize = 2;
 
 // The state word of a node that reaches these states.
 fn state_word(targets: u64) -> u32

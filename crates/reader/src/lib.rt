@@ -3,6 +3,9 @@
 // A text is read in one pass, token by token, and each node becomes one word of four fields. They are unpacked into the lent tree
 // only when nothing is refused and there is room. The word of an open element holds its parent's node where its size is to stand,
 // so the open elements are a chain, and need no stack.
+use layout::MOST_BYTES;
+use layout::MOST_NODES;
+use layout::NODE_WORDS;
 use model::Answer;
 use model::Refusal;
 ghost use mathlib.Core.List.{_++_};
@@ -26,14 +29,8 @@ ghost use Rattle.reader.specs.Packed.{packed, unpacked, all-unpacked, cl
 ghost use Rattle.reader.specs.Reading.{ReadsAt, AtStartTag, AtToken, Solid, Begins, Goes, GoesFrom, Scanned, Ends, at-offset, stop-number, refusal-by, on-step, refused-step};
 ghost use Rattle.reader.specs.Runs.{run, class-within, first-class, trim};
 
-// A text has at most so many bytes.
-const MOST_BYTES: usize = 65535;
-
-// A form has at most so many nodes.
-const MOST_NODES: usize = 4096;
-
-// Its elements lie at most so deep.
-const MOST_DEPTH: usize = 32;
+// A form's elements lie at most so deep.
+const MOST_DEPTH: usize = layout::MOST_LEVELS as usize;
 
 // The symbol of a text is this and its kind.
 const TEXT_SYMBOL: u64 = 64;
@@ -123,8 +120,8 @@ fn read_by(list: &[u8], text: &[u8], tree: &mut [u32]) -> Answer
     match scanned {
         Answer::Error(refusal) => Answer::Error(refusal),
         Answer::Count(nodes) => {
-            if tree.len() < 4 * nodes {
-                return Answer::Error(Refusal::ShortBuffer(4 * nodes));
+            if tree.len() < NODE_WORDS * nodes {
+                return Answer::Error(Refusal::ShortBuffer(NODE_WORDS * nodes));
             }
             unpack(&words, nodes, tree);
             Answer::Count(nodes)
@@ -684,7 +681,7 @@ fn unpack(words: &Words, n: usize, tree: &mut [u32])
 {
     let mut k = 0;
     while k < n {
-        put_node(tree, 4 * k, words[k]);
+        put_node(tree, NODE_WORDS * k, words[k]);
         k += 1;
     }
 }

@@ -2,13 +2,12 @@
 // data/SOURCES.txt says where each document comes from.
 mod sheets;
 
+use layout::MOST_NODES;
+use layout::NODE_WORDS;
+use layout::TREE_WORDS;
 use model::Answer;
 use model::Judgement;
 use sheets::MOST_WORDS;
-
-const MOST_NODES: usize = 4096;
-
-const TREE_WORDS: usize = 16384;
 
 // enough for each of the files
 const MOST_BYTES: usize = 4096;
@@ -20,7 +19,7 @@ fn judge_form(list: &[u8], text: &[u8], sheet: &[u32]) -> Judgement {
         Answer::Error(refusal) => Judgement::Error(refusal),
         Answer::Count(n) => {
             if n <= MOST_NODES {
-                return judge::judge(sheet, &tree[..4 * n], &mut states);
+                return judge::judge(sheet, &tree[..NODE_WORDS * n], &mut states);
             }
             judge::judge(sheet, &tree, &mut states)
         }

@@ -1,30 +1,18 @@
 // Rule sheets for the samples, row by row; each gives its number of words. An arc is the position that it leaves, the state that it
 // reads and the position that it enters, of two hexadecimal digits each.
+use layout::AND;
+use layout::AT_MOST;
+use layout::COUNT_RULE;
+use layout::MINUS_ONE;
+use layout::ORDER_COUNT_RULE;
+use layout::ORDER_RULE;
+use layout::REMAINDER;
+use layout::TAG_RULE;
+use layout::TEXT_RULE;
 use rows::add;
 
 // enough for each of the sheets
 pub(crate) const MOST_WORDS: usize = 256;
-
-// maps of rules: of a text's kind, of a tag, of content with an order part, with a count part, with both
-const TEXT: u32 = 33;
-
-const TAG: u32 = 38;
-
-const ORDER: u32 = 40;
-
-const COUNT: u32 = 48;
-
-const ORDER_COUNT: u32 = 56;
-
-// kinds of steps
-const AT_MOST: u32 = 1;
-
-const REMAINDER: u32 = 2;
-
-const AND: u32 = 4;
-
-// -1 as a word
-const MINUS_ONE: u32 = 0xFFFF_FFFF;
 
 // A book entry: author, title and date once each and references at most once, in any order; references are entries. States: 0 a
 // text, 1 a number, 2 auth, 3 title, 4 date, 5 ref, 6 entry, 7 book, 8 an entry's fields, 9 entries.
@@ -32,20 +20,20 @@ pub(crate) fn book(sheet: &mut [u32; MOST_WORDS]) -> usize {
     // edition, 10 states, 7 final, 6 tags, 11 rules
     let mut n = add(sheet, 0, &[1, 10, 128, 0, 6, 11]);
     // texts and numbers
-    n = add(sheet, n, &[TEXT, 2, 0]);
-    n = add(sheet, n, &[TEXT, 1, 1]);
+    n = add(sheet, n, &[TEXT_RULE, 2, 0]);
+    n = add(sheet, n, &[TEXT_RULE, 1, 1]);
     // fields: author and title are texts, the date is a number
-    n = add(sheet, n, &[TAG, 1, 0, 2]);
-    n = add(sheet, n, &[TAG, 2, 0, 3]);
-    n = add(sheet, n, &[TAG, 3, 1, 4]);
+    n = add(sheet, n, &[TAG_RULE, 1, 0, 2]);
+    n = add(sheet, n, &[TAG_RULE, 2, 0, 3]);
+    n = add(sheet, n, &[TAG_RULE, 3, 1, 4]);
     // references: one entry; or none, or several
-    n = add(sheet, n, &[TAG, 4, 6, 5]);
-    n = add(sheet, n, &[TAG, 4, 9, 5]);
+    n = add(sheet, n, &[TAG_RULE, 4, 6, 5]);
+    n = add(sheet, n, &[TAG_RULE, 4, 9, 5]);
     // an entry and a book have an entry's fields
-    n = add(sheet, n, &[TAG, 5, 8, 6]);
-    n = add(sheet, n, &[TAG, 6, 8, 7]);
+    n = add(sheet, n, &[TAG_RULE, 5, 8, 6]);
+    n = add(sheet, n, &[TAG_RULE, 6, 8, 7]);
     // an entry's fields: 11 steps
-    n = add(sheet, n, &[COUNT, 11]);
+    n = add(sheet, n, &[COUNT_RULE, 11]);
     // 0 to 2: at least one author, title and date
     n = add(sheet, n, &[AT_MOST, 4, 0, MINUS_ONE, MINUS_ONE]);
     n = add(sheet, n, &[AT_MOST, 8, 0, MINUS_ONE, MINUS_ONE]);
@@ -65,7 +53,7 @@ pub(crate) fn book(sheet: &mut [u32; MOST_WORDS]) -> usize {
     // target
     n = add(sheet, n, &[8]);
     // any number of entries: one position, accepting, with an arc to itself
-    n = add(sheet, n, &[ORDER, 1, 1, 0, 1, 0x00_06_00, 9]);
+    n = add(sheet, n, &[ORDER_RULE, 1, 1, 0, 1, 0x00_06_00, 9]);
     n
 }
 
@@ -75,32 +63,32 @@ pub(crate) fn order(sheet: &mut [u32; MOST_WORDS]) -> usize {
     // edition, 21 states, 2 final, 15 tags, 23 rules
     let mut n = add(sheet, 0, &[1, 21, 4, 0, 15, 23]);
     // texts and numbers
-    n = add(sheet, n, &[TEXT, 2, 0]);
-    n = add(sheet, n, &[TEXT, 1, 1]);
+    n = add(sheet, n, &[TEXT_RULE, 2, 0]);
+    n = add(sheet, n, &[TEXT_RULE, 1, 1]);
     // name, street, city and state are texts, the zip code is a number
-    n = add(sheet, n, &[TAG, 4, 0, 5]);
-    n = add(sheet, n, &[TAG, 5, 0, 6]);
-    n = add(sheet, n, &[TAG, 6, 0, 7]);
-    n = add(sheet, n, &[TAG, 7, 0, 8]);
-    n = add(sheet, n, &[TAG, 8, 1, 9]);
+    n = add(sheet, n, &[TAG_RULE, 4, 0, 5]);
+    n = add(sheet, n, &[TAG_RULE, 5, 0, 6]);
+    n = add(sheet, n, &[TAG_RULE, 6, 0, 7]);
+    n = add(sheet, n, &[TAG_RULE, 7, 0, 8]);
+    n = add(sheet, n, &[TAG_RULE, 8, 1, 9]);
     // comment
-    n = add(sheet, n, &[TAG, 9, 0, 10]);
+    n = add(sheet, n, &[TAG_RULE, 9, 0, 10]);
     // product name, quantity, price, which may be a number, and date
-    n = add(sheet, n, &[TAG, 12, 0, 13]);
-    n = add(sheet, n, &[TAG, 13, 1, 14]);
-    n = add(sheet, n, &[TAG, 14, 0, 15]);
-    n = add(sheet, n, &[TAG, 14, 1, 15]);
-    n = add(sheet, n, &[TAG, 15, 0, 16]);
+    n = add(sheet, n, &[TAG_RULE, 12, 0, 13]);
+    n = add(sheet, n, &[TAG_RULE, 13, 1, 14]);
+    n = add(sheet, n, &[TAG_RULE, 14, 0, 15]);
+    n = add(sheet, n, &[TAG_RULE, 14, 1, 15]);
+    n = add(sheet, n, &[TAG_RULE, 15, 0, 16]);
     // shipTo and billTo are addresses
-    n = add(sheet, n, &[TAG, 2, 17, 3]);
-    n = add(sheet, n, &[TAG, 3, 17, 4]);
+    n = add(sheet, n, &[TAG_RULE, 2, 17, 3]);
+    n = add(sheet, n, &[TAG_RULE, 3, 17, 4]);
     // an item
-    n = add(sheet, n, &[TAG, 11, 20, 12]);
+    n = add(sheet, n, &[TAG_RULE, 11, 20, 12]);
     // items: one; or none, or several
-    n = add(sheet, n, &[TAG, 10, 12, 11]);
-    n = add(sheet, n, &[TAG, 10, 19, 11]);
+    n = add(sheet, n, &[TAG_RULE, 10, 12, 11]);
+    n = add(sheet, n, &[TAG_RULE, 10, 19, 11]);
     // the order
-    n = add(sheet, n, &[TAG, 1, 18, 2]);
+    n = add(sheet, n, &[TAG_RULE, 1, 18, 2]);
     // an address: name, street, city, state, zip
     n = add(
         sheet,
@@ -138,7 +126,7 @@ pub(crate) fn order(sheet: &mut [u32; MOST_WORDS]) -> usize {
         ],
     );
     // items
-    n = add(sheet, n, &[ORDER, 1, 1, 0, 1, 0x00_0c_00, 19]);
+    n = add(sheet, n, &[ORDER_RULE, 1, 1, 0, 1, 0x00_0c_00, 19]);
     // an item: name, quantity, price, perhaps a comment, perhaps a date
     n = add(
         sheet,
@@ -166,20 +154,29 @@ pub(crate) fn order(sheet: &mut [u32; MOST_WORDS]) -> usize {
 pub(crate) fn cards(sheet: &mut [u32; MOST_WORDS]) -> usize {
     // edition, 7 states, 1 final, 4 tags, 8 rules
     let mut n = add(sheet, 0, &[1, 7, 2, 0, 4, 8]);
-    n = add(sheet, n, &[TEXT, 2, 0]);
+    n = add(sheet, n, &[TEXT_RULE, 2, 0]);
     // name and email are texts
-    n = add(sheet, n, &[TAG, 3, 0, 3]);
-    n = add(sheet, n, &[TAG, 4, 0, 4]);
+    n = add(sheet, n, &[TAG_RULE, 3, 0, 3]);
+    n = add(sheet, n, &[TAG_RULE, 4, 0, 4]);
     // a card
-    n = add(sheet, n, &[TAG, 2, 5, 2]);
+    n = add(sheet, n, &[TAG_RULE, 2, 5, 2]);
     // the book: one card; or none, or several
-    n = add(sheet, n, &[TAG, 1, 2, 1]);
-    n = add(sheet, n, &[TAG, 1, 6, 1]);
+    n = add(sheet, n, &[TAG_RULE, 1, 2, 1]);
+    n = add(sheet, n, &[TAG_RULE, 1, 6, 1]);
     // a card's content: a name, then names and emails
     n = add(
         sheet,
         n,
-        &[ORDER_COUNT, 2, 2, 0, 3, 0x00_03_01, 0x01_03_01, 0x01_04_01],
+        &[
+            ORDER_COUNT_RULE,
+            2,
+            2,
+            0,
+            3,
+            0x00_03_01,
+            0x01_03_01,
+            0x01_04_01,
+        ],
     );
     // and 3 steps: no more names than emails, no more emails than names, both
     n = add(sheet, n, &[3]);
@@ -188,7 +185,7 @@ pub(crate) fn cards(sheet: &mut [u32; MOST_WORDS]) -> usize {
     n = add(sheet, n, &[AND, 0, 1]);
     n = add(sheet, n, &[5]);
     // cards
-    n = add(sheet, n, &[ORDER, 1, 1, 0, 1, 0x00_02_00, 6]);
+    n = add(sheet, n, &[ORDER_RULE, 1, 1, 0, 1, 0x00_02_00, 6]);
     n
 }
 
@@ -197,26 +194,45 @@ pub(crate) fn cards(sheet: &mut [u32; MOST_WORDS]) -> usize {
 pub(crate) fn scene(sheet: &mut [u32; MOST_WORDS]) -> usize {
     // edition, 9 states, 1 final, 6 tags, 9 rules
     let mut n = add(sheet, 0, &[1, 9, 2, 0, 6, 9]);
-    n = add(sheet, n, &[TEXT, 2, 0]);
+    n = add(sheet, n, &[TEXT_RULE, 2, 0]);
     // title, stage direction, speaker and line are texts
-    n = add(sheet, n, &[TAG, 2, 0, 2]);
-    n = add(sheet, n, &[TAG, 3, 0, 3]);
-    n = add(sheet, n, &[TAG, 5, 0, 5]);
-    n = add(sheet, n, &[TAG, 6, 0, 6]);
+    n = add(sheet, n, &[TAG_RULE, 2, 0, 2]);
+    n = add(sheet, n, &[TAG_RULE, 3, 0, 3]);
+    n = add(sheet, n, &[TAG_RULE, 5, 0, 5]);
+    n = add(sheet, n, &[TAG_RULE, 6, 0, 6]);
     // a speech, a scene
-    n = add(sheet, n, &[TAG, 4, 7, 4]);
-    n = add(sheet, n, &[TAG, 1, 8, 1]);
+    n = add(sheet, n, &[TAG_RULE, 4, 7, 4]);
+    n = add(sheet, n, &[TAG_RULE, 1, 8, 1]);
     // a speech: its speaker and at least one line
     n = add(
         sheet,
         n,
-        &[ORDER, 3, 4, 0, 3, 0x00_05_01, 0x01_06_02, 0x02_06_02, 7],
+        &[
+            ORDER_RULE,
+            3,
+            4,
+            0,
+            3,
+            0x00_05_01,
+            0x01_06_02,
+            0x02_06_02,
+            7,
+        ],
     );
     // a scene: its title, then directions and speeches
     n = add(
         sheet,
         n,
-        &[ORDER_COUNT, 2, 2, 0, 3, 0x00_02_01, 0x01_03_01, 0x01_04_01],
+        &[
+            ORDER_COUNT_RULE,
+            2,
+            2,
+            0,
+            3,
+            0x00_02_01,
+            0x01_03_01,
+            0x01_04_01,
+        ],
     );
     // and one step: the number of speeches leaves 0 on division by 2
     n = add(sheet, n, &[1, REMAINDER, 16, 0, 1, 2, 0, 8]);
@@ -228,15 +244,15 @@ pub(crate) fn scene(sheet: &mut [u32; MOST_WORDS]) -> usize {
 pub(crate) fn math(sheet: &mut [u32; MOST_WORDS]) -> usize {
     // edition, 9 states, 2 final, 5 tags, 9 rules
     let mut n = add(sheet, 0, &[1, 9, 4, 0, 5, 9]);
-    n = add(sheet, n, &[TEXT, 2, 0]);
-    n = add(sheet, n, &[TEXT, 1, 1]);
+    n = add(sheet, n, &[TEXT_RULE, 2, 0]);
+    n = add(sheet, n, &[TEXT_RULE, 1, 1]);
     // an identifier and an operator are texts, a number is one
-    n = add(sheet, n, &[TAG, 2, 0, 3]);
-    n = add(sheet, n, &[TAG, 3, 0, 4]);
-    n = add(sheet, n, &[TAG, 4, 1, 5]);
+    n = add(sheet, n, &[TAG_RULE, 2, 0, 3]);
+    n = add(sheet, n, &[TAG_RULE, 3, 0, 4]);
+    n = add(sheet, n, &[TAG_RULE, 4, 1, 5]);
     // a row, and a base with its exponent
-    n = add(sheet, n, &[TAG, 1, 7, 2]);
-    n = add(sheet, n, &[TAG, 5, 8, 6]);
+    n = add(sheet, n, &[TAG_RULE, 1, 7, 2]);
+    n = add(sheet, n, &[TAG_RULE, 5, 8, 6]);
     // a row: operands, and operators between them
     n = add(
         sheet,

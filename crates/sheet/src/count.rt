@@ -11,19 +11,12 @@ use crate::walk::between;
 use crate::walk::refuse;
 use crate::walk::set_below;
 use crate::walk::word_at;
-
-// The kinds of step.
-const AT_MOST: u32 = 1;
-
-const REMAINDER: u32 = 2;
-
-const NOT: u32 = 3;
-
-const AND: u32 = 4;
-
-const OR: u32 = 5;
-
-const MOST_STEPS: u32 = 32;
+use layout::AND;
+use layout::AT_MOST;
+use layout::MOST_STEPS;
+use layout::NOT;
+use layout::OR;
+use layout::REMAINDER;
 
 const LARGEST_MODULUS: u32 = 1000;
 

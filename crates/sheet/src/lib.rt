@@ -13,6 +13,11 @@ mod rule;
 mod walk;
 
 use file::put_words;
+use layout::EDITION;
+use layout::MOST_RULES;
+use layout::MOST_STATES;
+use layout::MOST_TAGS;
+use layout::MOST_WORDS;
 use model::Answer;
 use model::Refusal;
 use rule::rules;
@@ -20,16 +25,6 @@ use walk::Walk;
 use walk::between;
 use walk::set_below;
 use walk::word_at;
-
-const EDITION: u32 = 1;
-
-const MOST_STATES: u32 = 64;
-
-const MOST_TAGS: u32 = 64;
-
-const MOST_RULES: u32 = 1024;
-
-const MOST_WORDS: usize = 16384;
 
 const WORD_BYTES: usize = 4;
 

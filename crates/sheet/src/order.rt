@@ -7,10 +7,8 @@ use crate::walk::Walk;
 use crate::walk::between;
 use crate::walk::set_below;
 use crate::walk::word_at;
-
-const MOST_POSITIONS: u32 = 64;
-
-const MOST_ARCS: u32 = 1024;
+use layout::MOST_ARCS;
+use layout::MOST_POSITIONS;
 
 // Does an arc word leave and enter positions below `m` and read a state below `p`, with nothing above bit 23?
 fn arc_good(w: u32, p: u32, m: u32) -> bool

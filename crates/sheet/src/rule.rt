@@ -11,20 +11,12 @@ use crate::walk::below;
 use crate::walk::between;
 use crate::walk::refuse;
 use crate::walk::word_at;
-
-// The maps of the rules: which fields follow. Bit 0 a text kind, bit 1 a tag, bit 2 an inner state, bit 3 an order part,
-// bit 4 a count part, bit 5 the target.
-const TEXT: u32 = 33;
-
-const TAG: u32 = 38;
-
-const ANY_CONTENT: u32 = 32;
-
-const ORDER: u32 = 40;
-
-const COUNT: u32 = 48;
-
-const ORDER_COUNT: u32 = 56;
+use layout::CONTENT_RULE;
+use layout::COUNT_RULE;
+use layout::ORDER_COUNT_RULE;
+use layout::ORDER_RULE;
+use layout::TAG_RULE;
+use layout::TEXT_RULE;
 
 // Past a rule over `p` states and `g` tags, by its map. A missing map reads as 0, which is none.
 fn rule(words: &[u32], walk: Walk, p: u32, g: u32) -> Walk
@@ -32,12 +24,12 @@ fn rule(words: &[u32], walk: Walk, p: u32, g: u32) -> Walk
 {
     let fields = any_word(words, walk);
     match word_at(words, walk) {
-        TEXT => below(words, between(words, fields, 1, 2), p),
-        TAG => below(words, below(words, between(words, fields, 1, g), p), p),
-        ANY_CONTENT => below(words, fields, p),
-        ORDER => below(words, order_part(words, fields, p), p),
-        COUNT => below(words, count_part(words, fields, p), p),
-        ORDER_COUNT => below(words, count_part(words, order_part(words, fields, p), p), p),
+        TEXT_RULE => below(words, between(words, fields, 1, 2), p),
+        TAG_RULE => below(words, below(words, between(words, fields, 1, g), p), p),
+        CONTENT_RULE => below(words, fields, p),
+        ORDER_RULE => below(words, order_part(words, fields, p), p),
+        COUNT_RULE => below(words, count_part(words, fields, p), p),
+        ORDER_COUNT_RULE => below(words, count_part(words, order_part(words, fields, p), p), p),
         _ => refuse(walk),
     }
 }

@@ -1,150 +1,44 @@
 // Document 01's cases 1 to 7 and 10: each form read and judged.
 use crate::parts::judge_nodes;
+use layout::AND;
+use layout::AT_MOST;
+use layout::COUNT_RULE;
+use layout::MINUS_ONE;
+use layout::ORDER_COUNT_RULE;
+use layout::REMAINDER;
+use layout::TAG_RULE;
+use layout::TEXT_RULE;
 use model::Answer;
+use rows::add;
 
 const LIST: [u8; 19] = *b"ct\noven\nsite\nunits\n";
 
-// the word of −1
-const MINUS_ONE: u32 = 4294967295;
+// Document 01's S, with so many rules. It gives the number of its words.
+fn counting(sheet: &mut [u32], rules: u32) -> usize {
+    let mut n = add(sheet, 0, &[1, 5, 16, 0, 4, rules]);
+    n = add(sheet, n, &[TEXT_RULE, 2, 0]);
+    n = add(sheet, n, &[TAG_RULE, 1, 0, 1, TAG_RULE, 2, 0, 2]);
+    n = add(sheet, n, &[TAG_RULE, 4, 0, 3, TAG_RULE, 3, 0, 4]);
+    n = add(sheet, n, &[COUNT_RULE, 3]);
+    n = add(sheet, n, &[AT_MOST, 6, 0, 1, MINUS_ONE, 0]);
+    n = add(sheet, n, &[AT_MOST, 6, 0, MINUS_ONE, 1, 0]);
+    add(sheet, n, &[AND, 0, 1, 0])
+}
 
-const S: [u32; 43] = [
-    1,
-    5,
-    16,
-    0,
-    4,
-    6,
-    33,
-    2,
-    0,
-    38,
-    1,
-    0,
-    1,
-    38,
-    2,
-    0,
-    2,
-    38,
-    4,
-    0,
-    3,
-    38,
-    3,
-    0,
-    4,
-    48,
-    3,
-    1,
-    6,
-    0,
-    1,
-    MINUS_ONE,
-    0,
-    1,
-    6,
-    0,
-    MINUS_ONE,
-    1,
-    0,
-    4,
-    0,
-    1,
-    0,
-];
-
-// S plus rule 33 2 1
-const S_PLUS: [u32; 46] = [
-    1,
-    5,
-    16,
-    0,
-    4,
-    7,
-    33,
-    2,
-    0,
-    38,
-    1,
-    0,
-    1,
-    38,
-    2,
-    0,
-    2,
-    38,
-    4,
-    0,
-    3,
-    38,
-    3,
-    0,
-    4,
-    48,
-    3,
-    1,
-    6,
-    0,
-    1,
-    MINUS_ONE,
-    0,
-    1,
-    6,
-    0,
-    MINUS_ONE,
-    1,
-    0,
-    4,
-    0,
-    1,
-    0,
-    33,
-    2,
-    1,
-];
-
-// S without a rule for units, and another kind-three rule: ovens and sensors in any order, and a remainder of −1 for each sensor
-const BY_THREE: [u32; 36] = [
-    1,
-    5,
-    16,
-    0,
-    4,
-    5,
-    33,
-    2,
-    0,
-    38,
-    1,
-    0,
-    1,
-    38,
-    2,
-    0,
-    2,
-    38,
-    3,
-    0,
-    4,
-    56,
-    1,
-    1,
-    0,
-    2,
-    256,
-    512,
-    1,
-    2,
-    2,
-    0,
-    MINUS_ONE,
-    3,
-    0,
-    0,
-];
-
-// where the remainder stands in it
-const REST: usize = 34;
+// S without a rule for units, and another kind-three rule: ovens and sensors in any order, and −1 for each sensor leaves r on
+// division by 3.
+fn leaving(sheet: &mut [u32], r: u32) {
+    let mut n = add(sheet, 0, &[1, 5, 16, 0, 4, 5]);
+    n = add(sheet, n, &[TEXT_RULE, 2, 0]);
+    n = add(sheet, n, &[TAG_RULE, 1, 0, 1, TAG_RULE, 2, 0, 2]);
+    n = add(sheet, n, &[TAG_RULE, 3, 0, 4]);
+    n = add(
+        sheet,
+        n,
+        &[ORDER_COUNT_RULE, 1, 1, 0, 2, 0x000100, 0x000200],
+    );
+    add(sheet, n, &[1, REMAINDER, 2, 0, MINUS_ONE, 3, r, 0]);
+}
 
 fn case(what: &[u8], sheet: &[u32], text: &[u8]) {
     let mut tree = [0u32; 20];
@@ -159,23 +53,28 @@ fn case(what: &[u8], sheet: &[u32], text: &[u8]) {
 }
 
 fn rest(what: &[u8], r: u32) {
-    let mut sheet = BY_THREE;
-    sheet[REST] = r;
+    let mut sheet = [0u32; 36];
+    leaving(&mut sheet, r);
     case(what, &sheet, b"<site><oven>x</oven><ct>x</ct></site>");
 }
 
 pub(crate) fn all() {
-    say::answer(b"S", sheet::check(&S));
-    case(b"1", &S, b"<site><oven/><ct/><units/></site>");
-    case(b"2", &S, b"<site><oven/><units/></site>");
-    case(b"3", &S, b"<units> kWh </units>");
-    case(b"4", &S, b"<units/>");
-    case(b"4, white inside", &S, b"<units> </units>");
-    case(b"5", &S, b"<site><oven/></site>");
-    case(b"6", &S_PLUS, b"<units> kWh </units>");
-    let mut swapped = S;
-    swapped[2] = 15;
-    case(b"7", &swapped, b"<units> kWh </units>");
+    let mut s = [0u32; 43];
+    counting(&mut s, 6);
+    say::answer(b"S", sheet::check(&s));
+    case(b"1", &s, b"<site><oven/><ct/><units/></site>");
+    case(b"2", &s, b"<site><oven/><units/></site>");
+    case(b"3", &s, b"<units> kWh </units>");
+    case(b"4", &s, b"<units/>");
+    case(b"4, white inside", &s, b"<units> </units>");
+    case(b"5", &s, b"<site><oven/></site>");
+    // S plus rule 33 2 1
+    let mut plus = [0u32; 46];
+    let n = counting(&mut plus, 7);
+    add(&mut plus, n, &[TEXT_RULE, 2, 1]);
+    case(b"6", &plus, b"<units> kWh </units>");
+    s[2] = 15;
+    case(b"7", &s, b"<units> kWh </units>");
     rest(b"10, leaving 0", 0);
     rest(b"10, leaving 1", 1);
     rest(b"10, leaving 2", 2);

@@ -7,19 +7,13 @@ ghost use Rattle.model.specs.Answers.{said};
 ghost use Rattle.model.specs.Tree.{text-symbol, tag-symbol, look};
 ghost use Rattle.model.specs.Calls.{tree-said};
 ghost use Rattle.tree.specs.Shape.{seen, shape-at};
+use layout::INTEGER_TEXT;
+use layout::MOST_LEVELS;
+use layout::MOST_NODES;
+use layout::NODE_WORDS;
+use layout::OTHER_TEXT;
 use model::Answer;
 use model::Refusal;
-
-// words to a node
-const NODE: usize = 4;
-
-const MOST_NODES: usize = 4096;
-// how deep elements lie at most, the root at depth 1
-const MOST_LEVELS: u32 = 32;
-
-const INTEGER_TEXT: u32 = 65;
-
-const OTHER_TEXT: u32 = 66;
 
 // What stands at a node, under a parent that ends before node `end`.
 enum Seen {
@@ -66,8 +60,8 @@ fn look(tree: &[u32], tags: u32, levels: u32, i: usize, end: usize, after_text: 
     if end <= i {
         return Seen::End;
     }
-    let symbol = tree[NODE * i];
-    let size = wide(tree[NODE * i + 1]);
+    let symbol = tree[NODE_WORDS * i];
+    let size = wide(tree[NODE_WORDS * i + 1]);
     // a true sum: 64 bits hold a node's number and any 32-bit size
     let next = i + size;
     if is_text(symbol) {
@@ -118,8 +112,8 @@ fn children(tree: &[u32], tags: u32, levels: u32, first: usize, end: usize) -> S
 pub fn check(tree: &[u32], tags: u32) -> Answer
     ensures { λ r. ⌜ said r ≡ tree-said tags (now (tree .entry)) ⌝ }
 {
-    let n = tree.len() / NODE;
-    let counted = (tree.len() % NODE == 0) & (1 <= n) & (n <= MOST_NODES);
+    let n = tree.len() / NODE_WORDS;
+    let counted = (tree.len() % NODE_WORDS == 0) & (1 <= n) & (n <= MOST_NODES);
     if !counted {
         return Answer::Error(Refusal::Tree(n));
     }

@@ -11,6 +11,11 @@ ghost use Rattle.model.specs.Calls.{formcheck};
 ghost use Rattle.model.specs.Line.{formcheck-line};
 ghost use Rattle.judge.specs.Index.{Passes};
 ghost use Rattle.verdict.specs.Sizes.{names-bytes, sheet-bytes, form-bytes};
+use layout::MOST_NODES;
+use layout::MOST_WORDS;
+use layout::NODE_WORDS;
+use layout::TAGS;
+use layout::TREE_WORDS;
 use model::Answer;
 use model::Judgement;
 use model::Refusal;
@@ -25,17 +30,6 @@ const FORM_BYTES: usize = 65536;
 
 // A line has at most so many bytes.
 pub const LINE_BYTES: usize = line::MOST_BYTES;
-
-const MOST_WORDS: usize = 16384;
-
-const MOST_NODES: usize = 4096;
-
-const NODE_WORDS: usize = 4;
-
-const TREE_WORDS: usize = MOST_NODES * NODE_WORDS;
-
-// where a sheet says how many tags it has
-const TAGS: usize = 4;
 
 fn wide(x: u32) -> usize
     ensures { λ r. ⌜ r ≡ x ⌝ }

@@ -1,4 +1,9 @@
 // Writing a tree as a form: refusals 8, 1, 10, 11, 24 and 22, in that order, and then the bytes.
+use layout::INTEGER_TEXT;
+use layout::MOST_BYTES;
+use layout::MOST_LEVELS;
+use layout::NODE_WORDS;
+use layout::OTHER_TEXT;
 use model::Answer;
 use model::Refusal;
 ghost use mathlib.Core.Path.{_≡_};
@@ -12,22 +17,8 @@ ghost use Rattle.model.specs.Written.{source-bytes, trimmed-text};
 ghost use Rattle.writer.specs.Nodes.{node-at, span-of, good-node, own-bytes, measured, Tag, Tags};
 ghost use Rattle.writer.specs.Forms.{Put, empty-tag, start-tag, end-tag, Ready, Puts};
 
-// A node has so many words.
-const WORDS: usize = 4;
-
 // An index of names has an entry for where each begins, and one for where the last ends.
 const ENTRIES: usize = names::MOST_NAMES + 1;
-
-// Symbols below 65 are tags; 65 and 66 are the two kinds of text.
-const INTEGER_TEXT: u32 = 65;
-
-const OTHER_TEXT: u32 = 66;
-
-// A source text, and a form, has at most so many bytes.
-const MOST_BYTES: usize = 65535;
-
-// Elements lie at most so deep, the root at depth 1.
-const MOST_LEVELS: u32 = 32;
 
 // the bytes of <name/>, and of <name> and </name>, beside the name's
 const EMPTY_MARKS: usize = 3;
@@ -85,7 +76,7 @@ fn node_at(tree: &[u32], i: usize) -> Node
     requires { ⌜ 4 * (i + 1) ≤ length (now tree) ⌝ }
     ensures { λ r. ⌜ r ≡ node-at (now (tree .entry)) i ⌝ }
 {
-    let at = WORDS * i;
+    let at = NODE_WORDS * i;
     Node {
         symbol: tree[at],
         size: tree[at + 1],
@@ -179,7 +170,7 @@ fn measure(list: &[u8], starts: &[usize; ENTRIES], text: &[u8], tree: &[u32]) ->
     requires { ⌜ Tags (now list) (now starts) (now tree) ⌝ }
     ensures { λ r. ⌜ said r ≡ answer-of (λ n. n) (measured (now (list .entry)) (now (text .entry)) (now (tree .entry)) (length (now (tree .entry)) / 4) 0 0) ⌝ }
 {
-    let nodes = tree.len() / WORDS;
+    let nodes = tree.len() / NODE_WORDS;
     let mut bytes = 0;
     let mut i = 0;
     while i < nodes {

@@ -1,0 +1,82 @@
+// Document 01's numbers that more than one crate needs: the words of trees and sheets, and their limits.
+
+// ---- texts
+
+pub const MOST_BYTES: usize = 65535;
+
+// ---- trees: each node is four words, the first of them its symbol
+
+pub const NODE_WORDS: usize = 4;
+
+pub const INTEGER_TEXT: u32 = 65;
+
+pub const OTHER_TEXT: u32 = 66;
+
+pub const MOST_NODES: usize = 4096;
+
+// the words of the largest tree
+pub const TREE_WORDS: usize = MOST_NODES * NODE_WORDS;
+
+// how deep elements lie at most, the root at depth 1
+pub const MOST_LEVELS: u32 = 32;
+
+// ---- sheets: where the words stand that come before the rules
+
+pub const STATES: usize = 1;
+
+pub const FINAL: usize = 2;
+
+pub const TAGS: usize = 4;
+
+pub const RULES: usize = 5;
+
+pub const FIRST_RULE: usize = 6;
+
+// the first word of every sheet
+pub const EDITION: u32 = 1;
+
+pub const MOST_STATES: u32 = 64;
+
+pub const MOST_TAGS: u32 = 64;
+
+pub const MOST_RULES: u32 = 1024;
+
+pub const MOST_WORDS: usize = 16384;
+
+// ---- rules: their maps. Bit 0 is a text kind, bit 1 a tag, bit 2 an inner state, bit 3 an order part, bit 4 a count part, bit 5 the
+// target.
+
+pub const TEXT_RULE: u32 = 33;
+
+pub const TAG_RULE: u32 = 38;
+
+pub const CONTENT_RULE: u32 = 32;
+
+pub const ORDER_RULE: u32 = 40;
+
+pub const COUNT_RULE: u32 = 48;
+
+pub const ORDER_COUNT_RULE: u32 = 56;
+
+// ---- order parts
+
+pub const MOST_POSITIONS: u32 = 64;
+
+pub const MOST_ARCS: u32 = 1024;
+
+// ---- count parts: the kinds of steps
+
+pub const AT_MOST: u32 = 1;
+
+pub const REMAINDER: u32 = 2;
+
+pub const NOT: u32 = 3;
+
+pub const AND: u32 = 4;
+
+pub const OR: u32 = 5;
+
+pub const MOST_STEPS: u32 = 32;
+
+// the two's complement word of −1
+pub const MINUS_ONE: u32 = 0xFFFF_FFFF;
