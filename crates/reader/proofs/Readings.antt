@@ -28,8 +28,8 @@ use Rattle.reader.specs.Listing.{Listing}
 use Rattle.reader.specs.Packed.{packed, unpacked, closed-words, closed-scan, Holds, outermost, inside}
 use Rattle.reader.specs.Reading.{at-offset, Reads, ReadsAt, AtStartTag, InContent, AtToken, Solid, Refuses, stop-number, refusal-by, on-step, refused-step, After, Goes, Whole}
 use Rattle.reader.specs.Runs.{run, class-within, first-class, trim}
-use Rattle.reader.specs.declared.Scan.{Scan}
-use Rattle.reader.specs.declared.Step.{Step}
+use Rattle.reader.specs.declared.scan.Scan.{Scan}
+use Rattle.reader.specs.declared.scan.Step.{Step}
 use Rattle.reader.proofs.RunLaws.{byte-there, no-white-run, run-within, name-run, name-first, name-length, text-run, kind-few}
 use Rattle.reader.proofs.TagLaws.{named-well, tag-named, tag-other}
 use Rattle.reader.proofs.Steps.{onward}

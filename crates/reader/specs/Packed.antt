@@ -5,7 +5,7 @@ use Prim.Native.Nat.{ℕ, suc, _+_, _-_, _*_, _/_, _%_, _≤_}
 use lib.ListN.{getD, take, drop, set}
 use Rattle.model.specs.Tree.{Document, sizeD, wordsD}
 use Rattle.model.specs.Text.{Open}
-use Rattle.reader.specs.declared.Scan.{Scan}
+use Rattle.reader.specs.declared.scan.Scan.{Scan}
 
 -- the four words of a node as one, and one word's four
 unfoldable pub packed : (symbol size start bytes : ℕ) → ℕ

@@ -18,8 +18,8 @@ use Rattle.model.proofs.RoundScan.{state}
 use Rattle.names.specs.Lines.{line-count}
 use Rattle.reader.specs.Packed.{all-unpacked, Holds}
 use Rattle.reader.specs.Runs.{first-class}
-use Rattle.reader.specs.declared.Scan.{Scan}
-use Rattle.reader.specs.declared.Step.{Step}
+use Rattle.reader.specs.declared.scan.Scan.{Scan}
+use Rattle.reader.specs.declared.scan.Step.{Step}
 
 -- the scan at another offset
 abbrev pub at-offset : Scan → ℕ → Scan

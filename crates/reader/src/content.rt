@@ -1,0 +1,214 @@
+// The tokens of a form: start tags, end tags and texts, each with the white before it.
+ghost use mathlib.Core.Path.{_≡_};
+ghost use Prim.Native.Nat.{_≤_, _<_};
+ghost use lib.ListN.{length, drop};
+ghost use Rattle.model.specs.Text.{blank, start-gap, end-open};
+ghost use Rattle.chars.specs.Table.{table};
+ghost use Rattle.names.specs.Lines.{line-count};
+ghost use Rattle.names.specs.Chains.{Chained};
+ghost use Rattle.reader.specs.Listing.{Listing};
+ghost use Rattle.reader.specs.Reading.{ReadsAt, AtStartTag, AtToken, Solid, Goes, GoesFrom};
+ghost use Rattle.reader.specs.Runs.{first-class};
+use crate::nodes::FIELD;
+use crate::nodes::Words;
+use crate::nodes::close;
+use crate::nodes::packed;
+use crate::runs::Classes;
+use crate::runs::class_at;
+use crate::runs::kind_of;
+use crate::runs::past_white;
+use crate::runs::skip;
+use crate::runs::text_end;
+use crate::runs::trimmed_end;
+use crate::scan::MANY_NODES;
+use crate::scan::OTHER_NAME;
+use crate::scan::Scan;
+use crate::scan::Step;
+use crate::scan::TOO_DEEP;
+use crate::scan::UNKNOWN_NAME;
+use crate::scan::moved;
+use crate::scan::on;
+use crate::scan::refused;
+use crate::scan::stopped;
+use crate::tags::PerBucket;
+use crate::tags::PerName;
+use crate::tags::find;
+use crate::tags::named;
+use layout::MOST_NODES;
+
+// A form's elements lie at most so deep.
+const MOST_DEPTH: usize = layout::MOST_LEVELS as usize;
+
+// The symbol of a text is this and its kind.
+const TEXT_SYMBOL: u64 = 64;
+
+// The root's start tag, or one token of content: white and a tag, or white and a text.
+pub(crate) fn token(
+    classes: &Classes,
+    list: &[u8],
+    lines: &PerName,
+    heads: &PerBucket,
+    nexts: &PerName,
+    text: &[u8],
+    s: Scan,
+    words: &mut Words,
+) -> Step
+    requires { ⌜ now classes ≡ table ⌝ }
+    requires { ⌜ Listing (now list) (now lines) ⌝ }
+    requires { ⌜ Chained (now list) (now heads) (now nexts) (line-count (now list)) ⌝ }
+    requires { ⌜ AtToken (now list) (now text) (now words) s ⌝ }
+    ensures { λ r. ⌜ Goes (now (list .entry)) (now (text .entry)) (now (words .exit)) (s .at) r ⌝ }
+{
+    let seen = past_white(classes, text, s.at);
+    let at = seen.at;
+    let class = seen.class;
+    if class == chars::LESS {
+        let next = class_at(classes, text, at + 1);
+        if next == chars::LETTER {
+            return start_tag(
+                classes,
+                list,
+                lines,
+                heads,
+                nexts,
+                text,
+                moved(s, at),
+                words,
+            );
+        }
+        if next == chars::SLASH {
+            return end_tag(classes, list, lines, text, moved(s, at + 2), words);
+        }
+        return stopped(next, at + 1);
+    }
+    if (class == chars::GREATER) | (chars::FORBIDDEN <= class) {
+        return stopped(class, at);
+    }
+    text_node(classes, text, moved(s, at), words)
+}
+
+// A start tag, from its < on.
+fn start_tag(
+    classes: &Classes,
+    list: &[u8],
+    lines: &PerName,
+    heads: &PerBucket,
+    nexts: &PerName,
+    text: &[u8],
+    s: Scan,
+    words: &mut Words,
+) -> Step
+    requires { ⌜ now classes ≡ table ⌝ }
+    requires { ⌜ Listing (now list) (now lines) ⌝ }
+    requires { ⌜ Chained (now list) (now heads) (now nexts) (line-count (now list)) ⌝ }
+    requires { ⌜ AtStartTag (now list) (now text) (now words) s ⌝ }
+    ensures { λ r. ⌜ Goes (now (list .entry)) (now (text .entry)) (now (words .exit)) (s .at) r ⌝ }
+{
+    let at = s.at;
+    if MOST_DEPTH <= s.depth {
+        return refused(TOO_DEEP, at);
+    }
+    if MOST_NODES <= s.nodes {
+        return refused(MANY_NODES, at);
+    }
+    let from = at + 1;
+    let end = skip(classes, text, from, chars::LETTER, chars::HYPHEN);
+    let tag = find(list, lines, heads, nexts, &text[from..end]);
+    if tag == 0 {
+        return refused(UNKNOWN_NAME, from);
+    }
+    let node = s.nodes;
+    words[node] = packed(tag as u64, s.top as u64, 0, 0);
+    let inside = Scan {
+        at: end,
+        top: node,
+        depth: s.depth + 1,
+        nodes: node + 1,
+    };
+    start_tag_end(classes, text, inside, words)
+}
+
+// What follows the name of a start tag: white, and > or />. No list is looked at, so the promise is for any list.
+fn start_tag_end(classes: &Classes, text: &[u8], s: Scan, words: &mut Words) -> Step
+    requires { ⌜ now classes ≡ table ⌝ }
+    requires { ⌜ (s .at ≤ length (now text)) × (s .top < s .nodes) × (s .nodes ≤ 4096) × (1 ≤ s .depth) ⌝ }
+    ensures { λ r. ⌜ GoesFrom start-gap (now (text .entry)) (now (words .entry)) (now (words .exit)) s r ⌝ }
+{
+    let seen = past_white(classes, text, s.at);
+    let at = seen.at;
+    let class = seen.class;
+    if class == chars::GREATER {
+        return on(moved(s, at + 1));
+    }
+    if class != chars::SLASH {
+        return stopped(class, at);
+    }
+    let last = class_at(classes, text, at + 1);
+    if last != chars::GREATER {
+        return stopped(last, at + 1);
+    }
+    on(close(s, at + 2, words))
+}
+
+// An end tag, from behind its </ on. Its name is compared with the open element's before it is known where it ends.
+fn end_tag(
+    classes: &Classes,
+    list: &[u8],
+    lines: &PerName,
+    text: &[u8],
+    s: Scan,
+    words: &mut Words,
+) -> Step
+    requires { ⌜ now classes ≡ table ⌝ }
+    requires { ⌜ Listing (now list) (now lines) ⌝ }
+    requires { ⌜ (1 ≤ s .depth) × ReadsAt (now list) (now text) (now words) end-open s ⌝ }
+    ensures { λ r. ⌜ Goes (now (list .entry)) (now (text .entry)) (now (words .exit)) (s .at) r ⌝ }
+{
+    let from = s.at;
+    let innermost = s.top;
+    let tag = (words[innermost] % FIELD) as usize;
+    let name = names::name_of(list, lines, tag);
+    if !named(classes, text, from, name) {
+        let first = class_at(classes, text, from);
+        if first != chars::LETTER {
+            return stopped(first, from);
+        }
+        return refused(OTHER_NAME, from);
+    }
+    let end = from + name.len();
+    let seen = past_white(classes, text, end);
+    let at = seen.at;
+    let class = seen.class;
+    if class != chars::GREATER {
+        return stopped(class, at);
+    }
+    on(close(s, at + 1, words))
+}
+
+// A text, up to the < behind it. No list is looked at, so the promise is for any list.
+fn text_node(classes: &Classes, text: &[u8], s: Scan, words: &mut Words) -> Step
+    requires { ⌜ now classes ≡ table ⌝ }
+    requires { ⌜ (s .at ≤ length (now text)) × (length (now text) ≤ 65535) ⌝ }
+    requires { ⌜ (1 ≤ s .depth) × Solid (first-class (drop (s .at) (now text))) ⌝ }
+    ensures { λ r. ⌜ GoesFrom blank (now (text .entry)) (now (words .entry)) (now (words .exit)) s r ⌝ }
+{
+    let at = s.at;
+    let node = s.nodes;
+    if MOST_NODES <= node {
+        return refused(MANY_NODES, at);
+    }
+    let stop = text_end(classes, text, at);
+    let class = class_at(classes, text, stop);
+    if class != chars::LESS {
+        return stopped(class, stop);
+    }
+    let end = trimmed_end(classes, text, at, stop);
+    let kind = kind_of(classes, &text[at..end]);
+    words[node] = packed(TEXT_SYMBOL + kind, 1, at as u64, (end - at) as u64);
+    on(Scan {
+        at: stop,
+        top: s.top,
+        depth: s.depth,
+        nodes: node + 1,
+    })
+}
