@@ -184,13 +184,14 @@ impl Results {
     }
 
     /// The goals, each with its worst cell.
-    pub fn goals(&self) -> [Goal; 6] {
+    pub fn goals(&self) -> [Goal; 7] {
         let large: Vec<&Measured> = self.forms.iter().filter(|row| row.nodes >= 1_000).collect();
         let heavy = self.forms.iter().filter(|row| row.label == TEXT_HEAVY);
-        let sixteen = self
+        let sixteen: Vec<&Measured> = self
             .sheets
             .iter()
-            .filter(|row| row.label.contains(", 16 rules"));
+            .filter(|row| row.label.contains(", 16 rules"))
+            .collect();
         [
             Goal {
                 text: "read at most 0.4 of libxml2's parse at 1,000 and 4,095 nodes",
@@ -203,9 +204,14 @@ impl Results {
                 worst: worst(large.iter().copied(), WRITE_TO_DUMP),
             },
             Goal {
+                text: "judge at most 1/8 of validation at 1,000 and 4,095 nodes, 16 rules",
+                limit: 0.125,
+                worst: worst(large.iter().chain(&sixteen).copied(), JUDGE_TO_VALIDATE),
+            },
+            Goal {
                 text: "read and judge at most 1/8 of parse and validation at 4,095 nodes, 16 rules",
                 limit: 0.125,
-                worst: worst(sixteen, BOTH),
+                worst: worst(sixteen.iter().copied(), BOTH),
             },
             Goal {
                 text: "read of a text-heavy form at most 3 times libxml2's parse",
