@@ -1,60 +1,40 @@
--- Laws of sets as numbers: masks, from the highest bit down; how many bits stand; the numbers that are not in a set.
+-- Laws of sets as numbers: a mask in two parts; the numbers that are not in a set; how many bits stand; sets of pairs, row by row.
 use mathlib.Core.Path.{_≡_, refl, sym, ap, ap₂, _∙_}
 use mathlib.Core.Bool.{Bool, true, false, cond, not, _&&_, and-true, false≢true}
 use mathlib.Core.List.{List}
 use Prim.Native.Nat.{ℕ, zero, suc, _+_, _-_, _*_, _/_, _%_, _^_, _≤_, _<_}
-use native.Mathlib.Nat.{pow-suc, mod-lt, div-lt-iff-lt-mul}
+use native.Mathlib.Nat.{zero-add, mul-assoc, mul-le-mul-right, pow-suc, mod-lt, div-lt-iff-lt-mul}
 use native.Mathlib.Omega.{arith}
+use lib.Bits.{bitAnd, and-le-l}
 use lib.Count.{ones, ones-cat}
-use lib.Pow.{pow-pos, pow-mono, split, high, ones-lt, ones-split}
+use lib.Pow.{pow-pos, pow-mono, split, high, ones-lt, ones-split, shl-exact}
 use mir.Val.{boolByte}
 use Rattle.model.specs.Lists.{_∈_, has, grid, SetBelow}
 use Rattle.model.specs.Sheet.{mask, bit}
 use Rattle.model.specs.Compose.{pair, Side, S, T, half, Sizes}
 use Rattle.model.proofs.Tests.{Told, yea, nay, told, and-yes}
-use Rattle.model.proofs.ListLaws.{∈-has, has-∈, has-no}
+use Rattle.model.proofs.ListLaws.{∈-has, has-∈, has-no, pair-left, pair-right}
 use Rattle.model.proofs.Pairs.{either, on-both, of-pairs, ∈-pairs}
 use Rattle.model.proofs.SetWords.{bit-mask, mask-<}
-use Rattle.bits.proofs.BitLaws.{mask-like}
+use Rattle.bits.proofs.BitLaws.{mask-like, mask-bits, bit-and}
 use Rattle.compose.specs.Sides.{FewPairs}
 use Rattle.compose.proofs.NumberLaws.{few-S, few-T, half-below}
 
 -- ---- masks
 
--- the bits from x on
-pub record Upper (k : ℕ) (f : ℕ → Bool) (x set : ℕ) : Type 0 where
-  pub within : x ≤ k
-  pub is : set ≡ mask (k - x) (λ i. f (x + i))
-
-pub upper-none : (k : ℕ) (f : ℕ → Bool) → Upper k f k 0
+-- the lowest a bits, and those above them
+mask-parts : (a b : ℕ) (f : ℕ → Bool) → mask (a + b) f ≡ mask a f + mask b (λ i. f (a + i)) * 2 ^ a
 unfolding mask
-upper-none k f = let e : k - k ≡ 0 = omega arith in record { within = omega arith; is = sym (ap (λ (n : ℕ). mask n (λ i. f (k + i))) e) }
-
-module _ {k : ℕ} {f : ℕ → Bool} {x set : ℕ} (h : Upper k f x set) where
-  pub upper-fits : 0 < x → k ≤ 64 → (b : Bool) → 2 * set + boolByte b < 2 ^ 64
-  upper-fits z l b = let m : k - x ≤ 63 = omega (arith, h .within) in omega (arith, pow-mono m, mask-< (k - x) (λ i. f (x + i)), h .is, byte b)
-    where
-      byte : (b : Bool) → boolByte b ≤ 1
-      byte true = omega arith
-      byte false = omega arith
-
-  pub upper-more : 0 < x → {b : Bool} → b ≡ f (x - 1) → Upper k f (x - 1) (2 * set + boolByte b)
-  unfolding mask
-  upper-more z {b} e =
-      let n : k - (x - 1) ≡ suc (k - x) = omega (arith, h .within) in
-      let here : x - 1 + 0 ≡ x - 1 = omega arith in
-      let first : f (x - 1 + 0) ≡ b = ap f here ∙ sym e in
-      let rest : mask (k - x) (λ i. f (x - 1 + suc i)) ≡ set = mask-like (k - x) (λ i. f (x - 1 + suc i)) (λ i. f (x + i)) (λ i _. let there : x - 1 + suc i ≡ x + i = omega arith in ap f there) ∙ sym (h .is) in
-      record { within = omega (arith, h .within); is = rw (n, first, rest) (digit b) }
-    where
-      digit : (b : Bool) → 2 * set + boolByte b ≡ cond b 1 0 + 2 * set
-      digit true = omega arith
-      digit false = omega arith
-
-  pub upper-all : x ≤ 0 → set ≡ mask k f
-  upper-all z =
-      let n : k - x ≡ k = omega arith in
-      h .is ∙ ap (λ (j : ℕ). mask j (λ i. f (x + i))) n ∙ mask-like k (λ i. f (x + i)) f (λ i _. let here : x + i ≡ i = omega arith in ap f here)
+mask-parts zero b f =
+    let e : 0 + b ≡ b = omega arith in
+    let same : mask b f ≡ mask b (λ i. f (0 + i)) = mask-like b f (λ i. f (0 + i)) (λ i _. ap f (sym (zero-add i))) in
+    ap (λ (k : ℕ). mask k f) e ∙ omega arith
+mask-parts (suc a) b f =
+    let e : suc a + b ≡ suc (a + b) = omega arith in
+    let high = mask b (λ i. f (suc (a + i))) in
+    let same : mask b (λ i. f (suc a + i)) ≡ high = mask-like b _ _ (λ i _. let there : suc a + i ≡ suc (a + i) = omega arith in ap f there) in
+    let twice : high * 2 ^ suc a ≡ high * 2 ^ a * 2 = ap (λ (x : ℕ). high * x) (pow-suc 2 a) ∙ sym (mul-assoc high (2 ^ a) 2) in
+    ap (λ (k : ℕ). mask k f) e ∙ rw same (omega (arith, mask-parts a b (λ i. f (suc i)), twice))
 
 -- ---- the numbers below k that are not in a set
 
@@ -80,6 +60,67 @@ ones-parts n i = ap ones (sym (split n i)) ∙ ones-cat i (n / 2 ^ i) (n % 2 ^ i
 
 pub turned-is : (k : ℕ) (f : ℕ → Bool) {set r : ℕ} → set ≡ mask k f → r + set + 1 ≡ 2 ^ k → r ≡ mask k (λ i. not (f i))
 turned-is k f e h = omega (arith, mask-not k f)
+
+-- ---- pairs, row by row
+
+mask-none : (k : ℕ) → mask k (λ i. false) ≡ 0
+unfolding mask
+mask-none zero = refl
+mask-none (suc k) = omega (arith, mask-none k)
+
+-- a row of k pairs: all or none of them, and of these the members of t
+module _ (k all : ℕ) (e : all + 1 ≡ 2 ^ k) (flag : Bool) where
+  all-or-none : all * boolByte flag ≡ mask k (λ i. flag)
+  all-or-none = go flag
+    where
+      go : (b : Bool) → all * boolByte b ≡ mask k (λ i. b)
+      go true = omega (arith, mask-not k (λ i. false), mask-none k)
+      go false = omega (arith, mask-none k)
+
+  pub row-fits : k ≤ 64 → all * boolByte flag < 2 ^ 64
+  row-fits h = omega (arith, all-or-none, mask-< k (λ i. flag), pow-mono h)
+
+  pub row-is : (t : ℕ) → bitAnd (all * boolByte flag) t ≡ mask k (λ i. flag && bit t i)
+  row-is t =
+      let n = mask k (λ i. flag) in
+      ap (λ (x : ℕ). bitAnd x t) all-or-none
+      ∙ mask-bits k (bitAnd n t) _ (omega (arith, and-le-l n t, mask-< k (λ i. flag))) (λ i l. bit-and n t i ∙ ap (λ (b : Bool). b && bit t i) (bit-mask k (λ i. flag) i l))
+
+-- whether both halves of a pair are in their sets
+abbrev both : (n s t x : ℕ) → Bool
+both n s t x = bit s (x / n) && bit t (x % n)
+
+-- the rows below i
+pub record Rows (m n s t i set : ℕ) : Type 0 where
+  pub within : i ≤ m
+  pub is : set ≡ mask (i * n) (both n s t)
+
+pub no-rows : (m n s t : ℕ) → Rows m n s t 0 0
+unfolding mask
+no-rows m n s t = let e : 0 * n ≡ 0 = omega arith in record { within = omega arith; is = sym (ap (λ (k : ℕ). mask k (both n s t)) e) }
+
+pub all-rows : {m n s t i set : ℕ} → Rows m n s t i set → m ≤ i → set ≡ mask (m * n) (both n s t)
+all-rows {m} {n} {s} {t} {i} h l = let e : i ≡ m = omega (arith, h .within) in h .is ∙ ap (λ (k : ℕ). mask (k * n) (both n s t)) e
+
+-- one row more
+pub row-room : (m n i : ℕ) → m * n ≤ 64 → i < m → i * n + n ≤ 64
+row-room m n i few l = let h : suc i * n ≤ m * n = mul-le-mul-right n l in omega arith
+
+module _ {m n s t i set row : ℕ} {flag : Bool} (few : m * n ≤ 64) (l : i < m) (h : Rows m n s t i set) (f : flag ≡ bit s i) (r : row ≡ mask n (λ j. flag && bit t j)) where
+  abbrev with-row : ℕ
+  with-row = set + (row * 2 ^ (i * n)) % 2 ^ 64
+
+  with-row-is : with-row ≡ mask (i * n + n) (both n s t)
+  with-row-is =
+      let high : mask n (λ j. both n s t (i * n + j)) ≡ row = mask-like n _ _ (λ j k. ap₂ _&&_ (ap (bit s) (pair-left i k) ∙ sym f) (ap (bit t) (pair-right i k))) ∙ sym r in
+      let exact : (row * 2 ^ (i * n)) % 2 ^ 64 ≡ row * 2 ^ (i * n) = shl-exact n (i * n) 64 (omega (arith, mask-< n (λ j. flag && bit t j))) (omega (arith, row-room m n i few l)) in
+      ap₂ _+_ (h .is) (exact ∙ ap (λ (x : ℕ). x * 2 ^ (i * n)) (sym high)) ∙ sym (mask-parts (i * n) n (both n s t))
+
+  pub with-row-fits : with-row < 2 ^ 64
+  with-row-fits = omega (arith, with-row-is, mask-< (i * n + n) (both n s t), pow-mono (row-room m n i few l))
+
+  pub one-row-more : Rows m n s t (i + 1) with-row
+  one-row-more = let e : i * n + n ≡ (i + 1) * n = omega arith in record { within = omega arith; is = with-row-is ∙ ap (λ (k : ℕ). mask k (both n s t)) e }
 
 -- ---- pairs of two sets
 

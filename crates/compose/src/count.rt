@@ -13,6 +13,7 @@ ghost use Rattle.compose.specs.Parts.{SumAt, SumOf, StepAt, StepsAt, Cou
 ghost use Rattle.compose.specs.Sums.{lifted-times, joint-steps};
 use crate::page::copy;
 use crate::page::put;
+use crate::set::ALL;
 use crate::set::count;
 use crate::set::pair_set;
 use crate::set::put_set;
@@ -23,9 +24,6 @@ use crate::side::half;
 use layout::AND;
 use layout::NOT;
 use layout::REMAINDER;
-
-// every number below 64
-const ALL: u64 = 0xFFFF_FFFF_FFFF_FFFF;
 
 // What a sum has: the states that are marked, and from where to where their coefficients stand, lowest state first.
 pub(crate) struct SumHead {
