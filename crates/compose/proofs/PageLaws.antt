@@ -10,7 +10,7 @@ use lib.Seq.{set-out, sets, sets-eq, slice, slice-cons}
 use borrow.Author.Tests as tests
 use Rattle.model.specs.Lists.{from, numbers, row, grid}
 use Rattle.model.proofs.Tests.{Told, yea, nay, told}
-use Rattle.compose.specs.Page.{Page, page, add, adds, Writes}
+use Rattle.compose.specs.Page.{Page, page, add, adds, repeated, Writes}
 
 -- ---- one word, and none
 
@@ -101,6 +101,15 @@ from-next i n h = let e : n - i ≡ suc (n - (i + 1)) = omega arith in rw (e, ad
 pub from-none : (i n : ℕ) → n ≤ i → from (n - i) i ≡ []
 unfolding from
 from-none i n h = let e : n - i ≡ 0 = omega arith in rw e
+
+-- words n times over, one time after another
+pub repeated-next : (ws : List ℕ) (n : ℕ) → 0 < n → repeated n ws ≡ ws ++ repeated (n - 1) ws
+unfolding repeated
+repeated-next ws n h = let e : n ≡ suc (n - 1) = omega arith in ap (λ (k : ℕ). repeated k ws) e
+
+pub repeated-none : (ws : List ℕ) (n : ℕ) → n ≤ 0 → repeated n ws ≡ []
+unfolding repeated
+repeated-none ws n h = let e : n ≡ 0 = omega arith in ap (λ (k : ℕ). repeated k ws) e
 
 -- what is made of each
 module _ (f : ℕ → ℕ → ℕ) where

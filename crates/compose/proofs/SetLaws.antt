@@ -1,4 +1,4 @@
--- Laws of sets as numbers: a mask in two parts; the numbers that are not in a set; how many bits stand; sets of pairs, row by row.
+-- Laws of sets as numbers: a mask in two parts; the numbers that are not in a set; sets of pairs, row by row.
 use mathlib.Core.Path.{_≡_, refl, sym, ap, ap₂, _∙_}
 use mathlib.Core.Bool.{Bool, true, false, cond, not, _&&_, and-true, false≢true}
 use mathlib.Core.List.{List}
@@ -6,8 +6,7 @@ use Prim.Native.Nat.{ℕ, zero, suc, _+_, _-_, _*_, _/_, _%_, _^_, _≤_, _<_}
 use native.Mathlib.Nat.{zero-add, mul-assoc, mul-le-mul-right, pow-suc, mod-lt, div-lt-iff-lt-mul}
 use native.Mathlib.Omega.{arith}
 use lib.Bits.{bitAnd, and-le-l}
-use lib.Count.{ones, ones-cat}
-use lib.Pow.{pow-pos, pow-mono, split, high, ones-lt, ones-split, shl-exact}
+use lib.Pow.{pow-pos, pow-mono, high, ones-lt, ones-split, shl-exact}
 use mir.Val.{boolByte}
 use Rattle.model.specs.Lists.{_∈_, has, grid, SetBelow}
 use Rattle.model.specs.Sheet.{mask, bit}
@@ -52,11 +51,6 @@ ones-below k h =
     let e : 64 ≡ k + (64 - k) = omega arith in
     let q : (2 ^ 64 - 1) / 2 ^ (64 - k) ≡ 2 ^ k - 1 = ap (λ (n : ℕ). (2 ^ n - 1) / 2 ^ (64 - k)) e ∙ ap (λ (n : ℕ). n / 2 ^ (64 - k)) (ones-split k (64 - k)) ∙ high (2 ^ k - 1) (64 - k) (ones-lt (64 - k)) in
     omega (arith, q, pow-pos k)
-
--- ---- how many bits stand
-
-pub ones-parts : (n i : ℕ) → ones n ≡ ones (n / 2 ^ i) + ones (n % 2 ^ i)
-ones-parts n i = ap ones (sym (split n i)) ∙ ones-cat i (n / 2 ^ i) (n % 2 ^ i) (mod-lt n (pow-pos i))
 
 pub turned-is : (k : ℕ) (f : ℕ → Bool) {set r : ℕ} → set ≡ mask k f → r + set + 1 ≡ 2 ^ k → r ≡ mask k (λ i. not (f i))
 turned-is k f e h = omega (arith, mask-not k f)

@@ -1,33 +1,31 @@
 -- The words of a sum, and of a lifted one.
 use mathlib.Core.Path.{_≡_, refl, sym, ap, ap₂, _∙_, subst}
 use mathlib.Core.Bool.{Bool, true, false, cond, _||_, false≢true}
-use mathlib.Core.List.{List, [], _∷_, _++_, map, flatMap, List·Memᴰ·head, List·Memᴰ·tail}
-use Prim.Native.Nat.{ℕ, zero, suc, _+_, _*_, _/_, _%_, _^_, _≤_, _<_}
-use native.Mathlib.Nat.{pow-suc}
+use mathlib.Core.List.{List, [], _∷_, _++_, map, flatMap, List·Memᴰ·head, List·Memᴰ·tail, List·Memᴰ·not-nil}
+use Prim.Native.Nat.{ℕ, zero, suc, _+_, _*_, _/_, _%_, _≤_, _<_}
 use native.Mathlib.Omega.{arith}
-use lib.Arith.{mod-mul}
+use lib.Arith.{digits-lt}
 use lib.Count.{ones, ones-step}
-use lib.Dec.{eqb, ltb, leb·suc-zero, leb·suc-suc, eqb·zero-suc, eqb·suc-zero, eqb·suc-suc}
-use lib.ListN.{length, getD, take, length-map}
-use lib.Pow.{pow-pos}
-use lib.Seq.{slice, length-slice, getD-take, getD-drop}
-use borrow.Author.Tests as tests
-use Rattle.model.specs.Lists.{_∈_, has, only, numbers, Ascending, SetBelow}
+use lib.Dec.{eqb, eqb·zero-suc, eqb·suc-zero, eqb·suc-suc}
+use lib.ListN.{length, getD, length-map}
+use lib.Seq.{slice}
+use Rattle.model.specs.Lists.{_∈_, has, only, from, numbers, row, grid, Ascending, SetBelow}
 use Rattle.model.specs.Sheet.{W, mask, set-words, bit, Coefficient, signed-word, marks, sum-words, SumInRange}
-use Rattle.model.specs.Compose.{Side, half, Sizes, coefficient-of, lift-sum}
-use Rattle.model.proofs.Tests.{Yes, Told, yea, nay, told, same, eqb-yes, eqb-like}
-use Rattle.model.proofs.ListLaws.{∈-has, has-∈, has-no, ∈-map, map-∈, map-each, ∈-each, each-∈, ∈-only, only-test, only-eq, ∈-numbers, numbers-<}
-use Rattle.model.proofs.Pairs.{of-side, of-pairs}
+use Rattle.model.specs.Compose.{pair, Side, S, T, half, Sizes, coefficient-of, lift-sum}
+use Rattle.model.proofs.Tests.{Told, yea, nay, told, same, eqb-yes, eqb-no, eqb-false}
+use Rattle.model.proofs.ListLaws.{∈-has, has-∈, has-no, ∈-map, map-∈, map-each, each-append, ∈-each, each-∈, ∈-only, only-test, only-eq, from-∈, ∈-numbers, numbers-<, grid-∈, asc-ext, asc-from, asc-grid}
+use Rattle.model.proofs.Pairs.{either, of-side, of-pairs, half-pair, ∈-pairs}
 use Rattle.model.proofs.SetWords.{bit-mask}
 use Rattle.model.proofs.Spans.{word-there, word-here, span-right}
 use Rattle.bits.proofs.BitLaws.{mask-like}
+use Rattle.compose.specs.Page.{repeated}
 use Rattle.compose.specs.declared.count.SumHead.{SumHead}
 use Rattle.compose.specs.Parts.{SumAt, SumOf}
-use Rattle.compose.specs.Sums.{time-of, lifted-times}
+use Rattle.compose.specs.Sums.{lifted-times}
 use Rattle.compose.proofs.NumberLaws.{half-below}
 use Rattle.compose.proofs.OrderWords.{words-from, words-end}
 
--- ---- how many members of a set lie below q
+-- ---- how many members a set has
 
 abbrev digit : Bool → ℕ
 digit b = cond b 1 0
@@ -39,20 +37,6 @@ count-below (suc q) f = digit (f 0) + count-below q (λ i. f (suc i))
 digit-≤ : (b : Bool) → digit b ≤ 1
 digit-≤ true = omega arith
 digit-≤ false = omega arith
-
--- the low bits of a mask
-mask-low : (k : ℕ) (f : ℕ → Bool) (q : ℕ) → q ≤ k → mask k f % 2 ^ q ≡ mask q f
-unfolding mask
-mask-low k f zero h = omega arith
-mask-low zero f (suc q) h = absurd (omega arith)
-mask-low (suc k) f (suc q) h =
-    let n = mask (suc k) f in
-    let m = mask k (λ i. f (suc i)) in
-    let low : n % 2 ≡ digit (f 0) = omega (arith, digit-≤ (f 0)) in
-    let high : n / 2 ≡ m = omega (arith, digit-≤ (f 0)) in
-    let e : n % 2 ^ suc q ≡ n / 2 % 2 ^ q * 2 + n % 2 = ap (λ (x : ℕ). n % x) (pow-suc 2 q) ∙ mod-mul n (pow-pos q) (omega arith) in
-    let rest : n / 2 % 2 ^ q ≡ mask q (λ i. f (suc i)) = ap (λ (x : ℕ). x % 2 ^ q) high ∙ mask-low k (λ i. f (suc i)) q (omega arith) in
-    omega arith
 
 ones-mask : (q : ℕ) (f : ℕ → Bool) → ones (mask q f) ≡ count-below q f
 unfolding mask count-below
@@ -77,27 +61,16 @@ count-none zero = refl
 count-none (suc q) = omega (arith, count-none q)
 
 -- one member more
-count-more : (q x : ℕ) (f : ℕ → Bool) → f x ≡ false → count-below q (λ i. eqb i x || f i) ≡ digit (ltb x q) + count-below q f
+count-more : (q x : ℕ) (f : ℕ → Bool) → x < q → f x ≡ false → count-below q (λ i. eqb i x || f i) ≡ suc (count-below q f)
 unfolding count-below
-count-more zero x f e = let z = leb·suc-zero x in rw z (omega arith)
-count-more (suc q) zero f e =
+count-more zero x f h e = absurd (omega arith)
+count-more (suc q) zero f h e =
     let rest : count-below q (λ i. eqb (suc i) 0 || f (suc i)) ≡ count-below q (λ i. f (suc i)) = count-like q _ _ (λ i _. ap (λ (b : Bool). b || f (suc i)) (eqb·suc-zero i)) in
-    let first : ltb 0 (suc q) ≡ true = tests.lt-ltb 0 (suc q) (omega arith) in
-    rw (e, rest, first) (omega arith)
-count-more (suc q) (suc x) f e =
-    let rest : count-below q (λ i. eqb (suc i) (suc x) || f (suc i)) ≡ digit (ltb x q) + count-below q (λ i. f (suc i))
-    = count-like q _ _ (λ i _. ap (λ (b : Bool). b || f (suc i)) (eqb·suc-suc i x)) ∙ count-more q x (λ i. f (suc i)) e in
-    rw (eqb·zero-suc x, leb·suc-suc (suc x) q, rest) (omega arith)
-
--- ---- the places of members in an ascending list
-
--- a member of an ascending list is not among the later ones, and those are above it
-later-no : {x : ℕ} {l : List ℕ} → ((y : ℕ) → y ∈ l → x < y) → (q : ℕ) → q ≤ x → has l q ≡ false
-later-no above q h = has-no (λ m. let l = above q m in omega arith)
-
-count-cons : (q x : ℕ) (l : List ℕ) → ((y : ℕ) → y ∈ l → x < y) → count-below q (has (x ∷ l)) ≡ digit (ltb x q) + count-below q (has l)
-unfolding has
-count-cons q x l above = count-more q x (has l) (later-no above x (omega arith))
+    rw (e, rest) (omega arith)
+count-more (suc q) (suc x) f h e =
+    let rest : count-below q (λ i. eqb (suc i) (suc x) || f (suc i)) ≡ suc (count-below q (λ i. f (suc i)))
+    = count-like q _ _ (λ i _. ap (λ (b : Bool). b || f (suc i)) (eqb·suc-suc i x)) ∙ count-more q x (λ i. f (suc i)) (omega arith) e in
+    rw (eqb·zero-suc x, rest) (omega arith)
 
 -- of a set below k there are as many as the list has
 count-all : (k : ℕ) (l : List ℕ) → SetBelow k l → count-below k (has l) ≡ length l
@@ -105,51 +78,124 @@ unfolding has
 count-all k [] h = count-none k
 count-all k (x ∷ l) h =
     let rest = count-all k l (record { ascends = h .ascends .1; below = λ q m. h .below q (List·Memᴰ·tail m) }) in
-    let first : ltb x k ≡ true = tests.lt-ltb x k (h .below x (List·Memᴰ·head refl)) in
-    count-cons k x l (h .ascends .0) ∙ rw first (omega arith)
+    count-more k x (has l) (h .below x (List·Memᴰ·head refl)) (has-no (λ m. let later = h .ascends .0 x m in omega arith)) ∙ ap suc rest
 
--- none lie below the first
-count-first : (x : ℕ) (l : List ℕ) → ((y : ℕ) → y ∈ l → x < y) → count-below x (has (x ∷ l)) ≡ 0
-count-first x l above =
-    let none : ltb x x ≡ false = tests.le-ltb x x (omega arith) in
-    count-cons x x l above ∙ rw none (omega (arith, count-like x (has l) (λ i. false) (λ i h. later-no above i (omega arith)), count-none x))
+-- ---- lists of what is made of each element
+
+each-like : {A : Type 0} (f g : A → List ℕ) (l : List A) → ((x : A) → x ∈ l → f x ≡ g x) → flatMap f l ≡ flatMap g l
+unfolding flatMap
+each-like f g [] e = refl
+each-like f g (x ∷ l) e = ap₂ (_++_) (e x (List·Memᴰ·head refl)) (each-like f g l (λ y m. e y (List·Memᴰ·tail m)))
+
+-- each word alone, and the same words each time
+each-self : (ws : List ℕ) → flatMap (λ w. w ∷ []) ws ≡ ws
+unfolding flatMap
+each-self [] = refl
+each-self (w ∷ ws) = ap (λ (r : List ℕ). w ∷ r) (each-self ws)
+
+each-repeated : (ws : List ℕ) (n q : ℕ) → flatMap (λ i. ws) (from n q) ≡ repeated n ws
+unfolding flatMap from repeated
+each-repeated ws zero q = refl
+each-repeated ws (suc n) q = ap (λ (r : List ℕ). ws ++ r) (each-repeated ws n (suc q))
+
+repeated-empty : (n : ℕ) → repeated n [] ≡ []
+unfolding repeated
+repeated-empty zero = refl
+repeated-empty (suc n) = repeated-empty n
+
+-- ---- the pairs of states, row by row
+
+each-row : (f : ℕ → List ℕ) (p s : ℕ) (l : List ℕ) → flatMap f (row (pair p) l s) ≡ flatMap (λ t. f (pair p s t)) l
+unfolding row flatMap
+each-row f p s [] = refl
+each-row f p s (t ∷ l) = ap (λ (r : List ℕ). f (pair p s t) ++ r) (each-row f p s l)
+
+each-grid : (f : ℕ → List ℕ) (p : ℕ) (l m : List ℕ) → flatMap f (grid (pair p) l m) ≡ flatMap (λ s. flatMap (λ t. f (pair p s t)) m) l
+unfolding grid flatMap
+each-grid f p [] m = refl
+each-grid f p (s ∷ l) m = each-append f (row (pair p) m s) (grid (pair p) l m) ∙ ap₂ (_++_) (each-row f p s m) (each-grid f p l m)
+
+abbrev states : Sizes → Side → List ℕ
+states n side = numbers (of-side side n)
+
+-- one row for each state of S, in which T's state goes through all of them
+module _ (n : Sizes) (some : 1 ≤ n .of-T) where
+  row-by-row : numbers (of-pairs n) ≡ grid (pair (n .of-T)) (states n S) (states n T)
+  row-by-row =
+      asc-ext _ _ (asc-from (of-pairs n) 0) (asc-grid (n .of-T) (states n S) (states n T) (asc-from (n .of-S) 0) (asc-from (n .of-T) 0) (λ t m. numbers-< (n .of-T) m))
+      (λ x m. ∈-pairs (n .of-T) (states n) (λ t k. numbers-< (n .of-T) k) x .1 (λ side. ∈-numbers (of-side side n) (half-below side n some (numbers-< (of-pairs n) m))))
+      (λ x m.
+      let (s, t, i, j, e) = grid-∈ (pair (n .of-T)) (states n S) (states n T) m in
+      ∈-numbers (of-pairs n) (rw e (digits-lt (numbers-< (n .of-S) i) (numbers-< (n .of-T) j))))
+
+  each-half : (f : ℕ → List ℕ) (side : Side)
+      → flatMap (λ x. f (half side (n .of-T) x)) (numbers (of-pairs n)) ≡ flatMap (λ s. flatMap (λ t. f (either s t side)) (states n T)) (states n S)
+  each-half f side =
+      ap (flatMap (λ x. f (half side (n .of-T) x))) row-by-row ∙ each-grid (λ x. f (half side (n .of-T) x)) (n .of-T) (states n S) (states n T)
+      ∙ each-like _ _ (states n S) (λ s _. each-like _ _ (states n T) (λ t m. ap f (half-pair side (either s t) (numbers-< (n .of-T) m))))
 
 -- ---- the coefficient of a state
 
 abbrev pub times-words : List Coefficient → List ℕ
 times-words cs = map (λ c. signed-word (c .times)) cs
 
--- a state has no coefficient if it is not marked, and otherwise the one after those of the marks below it
-data TimesOf (cs : List Coefficient) (q x : ℕ) : Type 0 where
-  unmarked : has (marks cs) q ≡ false → coefficient-of cs q x ≡ [] → TimesOf cs q x
-  marked : Yes (has (marks cs) q) → count-below q (has (marks cs)) < length cs
-      → times-words (coefficient-of cs q x) ≡ getD (times-words cs) (count-below q (has (marks cs))) 0 ∷ [] → TimesOf cs q x
+-- the words of the coefficients of state q: one or none
+times-at : List Coefficient → ℕ → List ℕ
+times-at cs q = flatMap (λ c. only (eqb (c .state) q) (signed-word (c .times))) cs
 
-times-of : (cs : List Coefficient) (q x : ℕ) → Ascending (marks cs) → TimesOf cs q x
-unfolding coefficient-of flatMap has only
-times-of [] q x a = unmarked refl refl
-times-of (c ∷ cs) q x (above, al) = go (told (eqb (c .state) q)) (times-of cs q x al)
+times-of : (cs : List Coefficient) (q x : ℕ) → times-words (coefficient-of cs q x) ≡ times-at cs q
+unfolding coefficient-of times-at only
+times-of cs q x = map-each (λ (c : Coefficient). signed-word (c .times)) _ cs ∙ each-like _ _ cs (λ c _. go (eqb (c .state) q) c)
   where
-    ms : List ℕ
-    ms = marks cs
+    go : (b : Bool) (c : Coefficient) → times-words (only b (record { state = x; times = c .times })) ≡ only b (signed-word (c .times))
+    go true c = refl
+    go false c = refl
 
-    w : ℕ
-    w = signed-word (c .times)
+times-none : (cs : List Coefficient) (q : ℕ) → (q ∈ marks cs → ⊥) → times-at cs q ≡ []
+unfolding times-at flatMap only
+times-none [] q h = refl
+times-none (c ∷ cs) q h =
+    let e : eqb (c .state) q ≡ false = eqb-false (λ e. h (List·Memᴰ·head (sym e))) in
+    rw e (times-none cs q (λ m. h (List·Memᴰ·tail m)))
 
-    turned : {b : Bool} → eqb (c .state) q ≡ b → eqb q (c .state) ≡ b
-    turned e = eqb-like q (c .state) (c .state) q sym sym ∙ e
+-- f of the words at each of k states from a on is f of each word, where the coefficients are of those states and ascend
+module _ (f : List ℕ → List ℕ) (empty : f [] ≡ []) where
+  each-state : (k a : ℕ) (cs : List Coefficient) → Ascending (marks cs) → ((q : ℕ) → q ∈ marks cs → (a ≤ q) × (q < a + k))
+      → flatMap (λ q. f (times-at cs q)) (from k a) ≡ flatMap (λ w. f (w ∷ [])) (times-words cs)
+  unfolding flatMap from times-at only
+  each-state zero a [] asc h = refl
+  each-state zero a (c ∷ cs) asc h = let (l, m) = h (c .state) (List·Memᴰ·head refl) in absurd (omega arith)
+  each-state (suc k) a [] asc h = ap₂ (_++_) empty (each-state k (suc a) [] tt (λ q m. absurd (List·Memᴰ·not-nil m)))
+  each-state (suc k) a (c ∷ cs) (above, asc) h =
+      go (told (eqb (c .state) a)) (λ b. each-state k (suc a) cs asc b) (λ b. each-state k (suc a) (c ∷ cs) (above, asc) b)
+    where
+      w : ℕ
+      w = signed-word (c .times)
 
-    go : Told (eqb (c .state) q) → TimesOf cs q x → TimesOf (c ∷ cs) q x
-    go (yea e) (unmarked f g) =
-        let i : c .state ≡ q = same (c .state) q e in
-        let zero-below : count-below q (has (marks (c ∷ cs))) ≡ 0 = subst (λ (y : ℕ). count-below y (has (marks (c ∷ cs))) ≡ 0) i (count-first (c .state) ms above) in
-        marked (rw (turned e)) (omega arith) (rw (e, g, zero-below))
-    go (yea e) (marked y l f) = let i : c .state ≡ q = same (c .state) q e in absurd (false≢true (sym (later-no above q (omega arith)) ∙ y))
-    go (nay e) (unmarked f g) = unmarked (rw (turned e) f) (rw e g)
-    go (nay e) (marked y l f) =
-        let h : c .state < q = above q (has-∈ ms y) in
-        let n : count-below q (has (marks (c ∷ cs))) ≡ suc (count-below q (has ms)) = count-cons q (c .state) ms above ∙ rw (tests.lt-ltb (c .state) q h) (omega arith) in
-        marked (rw (turned e) y) (omega arith) (rw (e, n) f)
+      Bounds : List Coefficient → Type 0
+      Bounds ds = (q : ℕ) → q ∈ marks ds → (suc a ≤ q) × (q < suc a + k)
+
+      Rest : List Coefficient → Type 0
+      Rest ds = flatMap (λ q. f (times-at ds q)) (from k (suc a)) ≡ flatMap (λ w. f (w ∷ [])) (times-words ds)
+
+      lowest : (q : ℕ) → q ∈ marks (c ∷ cs) → c .state ≤ q
+      lowest q (List·Memᴰ·head e) = omega arith
+      lowest q (List·Memᴰ·tail m) = let l = above q m in omega arith
+
+      go : Told (eqb (c .state) a) → (Bounds cs → Rest cs) → (Bounds (c ∷ cs) → Rest (c ∷ cs))
+          → f (times-at (c ∷ cs) a) ++ flatMap (λ q. f (times-at (c ∷ cs) q)) (from k (suc a)) ≡ f (w ∷ []) ++ flatMap (λ w. f (w ∷ [])) (times-words cs)
+      go (yea e) rest all =
+          let first : c .state ≡ a = same (c .state) a e in
+          let here : times-at (c ∷ cs) a ≡ w ∷ [] = rw (e, times-none cs a (λ m. let l = above a m in absurd (omega arith))) in
+          let later : flatMap (λ q. f (times-at (c ∷ cs) q)) (from k (suc a)) ≡ flatMap (λ q. f (times-at cs q)) (from k (suc a))
+          = each-like _ _ (from k (suc a)) (λ q m. let (l, _) = from-∈ k (suc a) m in let other : eqb (c .state) q ≡ false = eqb-false {m = c .state} {n = q} (λ i. omega arith) in rw other) in
+          ap₂ (_++_) (ap f here) (later ∙ rest (λ q m. let l = above q m in let (_, u) = h q (List·Memᴰ·tail m) in (omega arith, omega arith)))
+      go (nay e) rest all =
+          let (low, _) = h (c .state) (List·Memᴰ·head refl) in
+          let later : a < c .state = omega (arith, eqb-no {m = c .state} {n = a} e) in
+          let none : times-at (c ∷ cs) a ≡ [] = times-none (c ∷ cs) a (λ m. let l = lowest a m in absurd (omega arith)) in
+          let ws = flatMap (λ q. f (times-at (c ∷ cs) q)) (from k (suc a)) in
+          ap (λ (v : List ℕ). v ++ ws) (ap f none ∙ empty) ∙ all (λ q m. let l = lowest q m in let (_, u) = h q m in (omega arith, omega arith))
 
 -- ---- the words of a sum
 
@@ -181,39 +227,8 @@ module _ {p a : ℕ} {s : List ℕ} {cs : List Coefficient} (h : SumAt p s a cs)
 
 -- ---- the words of a lifted sum
 
-each-like : {A : Type 0} (f g : A → List ℕ) (l : List A) → ((x : A) → x ∈ l → f x ≡ g x) → flatMap f l ≡ flatMap g l
-unfolding flatMap
-each-like f g [] e = refl
-each-like f g (x ∷ l) e = ap₂ (_++_) (e x (List·Memᴰ·head refl)) (each-like f g l (λ y m. e y (List·Memᴰ·tail m)))
-
-module _ {p a : ℕ} {s : List ℕ} {cs : List Coefficient} {x : SumHead} (h : SumOf p s a cs x) (ranges : SumInRange p cs) where
-  ones-below-mark : (q : ℕ) → q ≤ p → ones (x .marks % 2 ^ q) ≡ count-below q (has (marks cs))
-  ones-below-mark q l = ap (λ (n : ℕ). ones (n % 2 ^ q)) (h .marks) ∙ ap ones (mask-low p (has (marks cs)) q l) ∙ ones-mask q (has (marks cs))
-
-  bit-mark : (q : ℕ) → q < p → bit (x .marks) q ≡ has (marks cs) q
-  bit-mark q l = ap (λ (n : ℕ). bit n q) (h .marks) ∙ bit-mask p (has (marks cs)) q l
-
-  -- the coefficient of a marked state stands in the words
-  in-words : (k : ℕ) → k < length cs → (x .from + k < x .to) × (getD s (x .from + k) 0 ≡ getD (times-words cs) k 0)
-  in-words k l =
-      let n : length (slice (x .from) (x .to) s) ≡ length cs = ap length (h .words) ∙ length-map cs (λ c. signed-word (c .times)) in
-      let room : x .from + k < x .to = omega (arith, length-slice (x .from) (x .to) s (h .room)) in
-      (room, sym (getD-take (x .to) s (x .from + k) 0 room) ∙ sym (getD-drop (x .from) (take (x .to) s) k 0) ∙ ap (λ (ws : List ℕ). getD ws k 0) (h .words))
-
-  pub times-room : (q : ℕ) → q < p → Yes (bit (x .marks) q) → x .from + ones (x .marks % 2 ^ q) < length s
-  times-room q l t = go (times-of cs q 0 (ranges .marked .ascends))
-    where
-      go : TimesOf cs q 0 → x .from + ones (x .marks % 2 ^ q) < length s
-      go (unmarked f g) = absurd (false≢true (sym f ∙ sym (bit-mark q l) ∙ t))
-      go (marked y k f) = let (r, _) = in-words _ k in omega (arith, ones-below-mark q (omega arith), h .room)
-
-  time-is : (q y : ℕ) → q < p → time-of s (x .marks) (x .from) q ≡ times-words (coefficient-of cs q y)
-  unfolding only
-  time-is q y l = go (times-of cs q y (ranges .marked .ascends))
-    where
-      go : TimesOf cs q y → time-of s (x .marks) (x .from) q ≡ times-words (coefficient-of cs q y)
-      go (unmarked f g) = rw (bit-mark q l ∙ f, g)
-      go (marked t k f) = let (_, e) = in-words _ k in rw (bit-mark q l ∙ t, ones-below-mark q (omega arith), e, f)
+bit-mark : {p a : ℕ} {s : List ℕ} {cs : List Coefficient} {x : SumHead} → SumOf p s a cs x → (q : ℕ) → q < p → bit (x .marks) q ≡ has (marks cs) q
+bit-mark {p} {cs = cs} h q l = ap (λ (n : ℕ). bit n q) (h .marks) ∙ bit-mask p (has (marks cs)) q l
 
 -- a pair is marked in a lifted sum if its half is marked
 module _ (side : Side) (n : Sizes) (cs : List Coefficient) {x : ℕ} (l : x < of-pairs n) where
@@ -247,35 +262,28 @@ module _ (side : Side) (n : Sizes) (cs : List Coefficient) {x : ℕ} (l : x < of
       go (yea t) = t ∙ sym (∈-has (marked-back (has-∈ (marks cs) t)))
       go (nay t) = t ∙ sym (has-no (λ m. false≢true (sym t ∙ ∈-has (marked-there m))))
 
+-- the words of the coefficients: each pair has that of its half
+module _ (n : Sizes) (some : 1 ≤ n .of-T) (cs : List Coefficient) where
+  by-state : (side : Side) → SetBelow (of-side side n) (marks cs) → lifted-times side n (times-words cs) ≡ flatMap (λ x. times-at cs (half side (n .of-T) x)) (numbers (of-pairs n))
+  by-state S h =
+      sym (each-half n some (times-at cs) S ∙ each-like _ _ (states n S) (λ s _. each-repeated (times-at cs s) (n .of-T) 0)
+      ∙ each-state (repeated (n .of-T)) (repeated-empty (n .of-T)) (n .of-S) 0 cs (h .ascends) (λ q m. (omega arith, omega (arith, h .below q m))))
+  by-state T h =
+      sym (each-half n some (times-at cs) T ∙ each-repeated (flatMap (times-at cs) (states n T)) (n .of-S) 0
+      ∙ ap (repeated (n .of-S)) (each-state (λ ws. ws) refl (n .of-T) 0 cs (h .ascends) (λ q m. (omega arith, omega (arith, h .below q m))) ∙ each-self (times-words cs)))
+
+  times-lifted : (side : Side) → SetBelow (of-side side n) (marks cs) → lifted-times side n (times-words cs) ≡ times-words (lift-sum side n cs)
+  unfolding lift-sum
+  times-lifted side h =
+      by-state side h ∙ each-like _ _ (numbers (of-pairs n)) (λ x _. sym (times-of cs (half side (n .of-T) x) x))
+      ∙ sym (map-each (λ (c : Coefficient). signed-word (c .times)) (λ x. coefficient-of cs (half side (n .of-T) x) x) (numbers (of-pairs n)))
+
 module _ (side : Side) (n : Sizes) (some : 1 ≤ n .of-T) {a : ℕ} {s : List ℕ} {cs : List Coefficient} {x : SumHead}
     (h : SumOf (of-side side n) s a cs x) (ranges : SumInRange (of-side side n) cs) where
   pub lifted-sum-words : {set : ℕ} → set ≡ mask (of-pairs n) (λ y. bit (x .marks) (half side (n .of-T) y))
-      → (set % W ∷ set / W ∷ []) ++ lifted-times s (x .marks) (x .from) side n (numbers (of-pairs n)) ≡ sum-words (of-pairs n) (lift-sum side n cs)
-  unfolding sum-words set-words lifted-times lift-sum
+      → (set % W ∷ set / W ∷ []) ++ lifted-times side n (slice (x .from) (x .to) s) ≡ sum-words (of-pairs n) (lift-sum side n cs)
+  unfolding sum-words set-words
   lifted-sum-words {set} e =
       let same-marks : set ≡ mask (of-pairs n) (has (marks (lift-sum side n cs)))
-      = e ∙ mask-like (of-pairs n) _ _ (λ y l. bit-mark h ranges (half side (n .of-T) y) (half-below side n some l) ∙ has-lifted side n cs l) in
-      rw (same-marks, times)
-    where
-      times : flatMap (λ y. time-of s (x .marks) (x .from) (half side (n .of-T) y)) (numbers (of-pairs n)) ≡ times-words (lift-sum side n cs)
-      times =
-          each-like _ _ (numbers (of-pairs n)) (λ y m. time-is h ranges (half side (n .of-T) y) y (half-below side n some (numbers-< (of-pairs n) m)))
-          ∙ sym (map-each (λ (c : Coefficient). signed-word (c .times)) (λ y. coefficient-of cs (half side (n .of-T) y) y) (numbers (of-pairs n)))
-
--- the coefficients of pairs, one pair at a time
-module _ (s : List ℕ) (m first : ℕ) (side : Side) (n : Sizes) where
-  pub times-like : {xs ys : List ℕ} → xs ≡ ys → lifted-times s m first side n xs ≡ lifted-times s m first side n ys
-  times-like e = ap (lifted-times s m first side n) e
-
-  pub times-next : {xs rest : List ℕ} {x q k : ℕ} → xs ≡ x ∷ rest → q ≡ half side (n .of-T) x → Yes (bit m q) → k ≡ ones (m % 2 ^ q)
-      → lifted-times s m first side n xs ≡ (getD s (first + k) 0 ∷ []) ++ lifted-times s m first side n rest
-  unfolding lifted-times flatMap only
-  times-next {x = x} e eq t ek = rw (e, ← eq, t, ek)
-
-  pub times-skip : {xs rest : List ℕ} {x q : ℕ} → xs ≡ x ∷ rest → q ≡ half side (n .of-T) x → bit m q ≡ false → lifted-times s m first side n xs ≡ [] ++ lifted-times s m first side n rest
-  unfolding lifted-times flatMap only
-  times-skip {x = x} e eq t = rw (e, ← eq, t)
-
-  pub times-none : {xs : List ℕ} → xs ≡ [] → lifted-times s m first side n xs ≡ []
-  unfolding lifted-times flatMap
-  times-none e = rw e
+      = e ∙ mask-like (of-pairs n) _ _ (λ y l. bit-mark h (half side (n .of-T) y) (half-below side n some l) ∙ has-lifted side n cs l) in
+      rw (same-marks, h .words, times-lifted n some cs side (ranges .marked))

@@ -1,8 +1,8 @@
 -- Words written one after another into a buffer.
 use mathlib.Core.Path.{_≡_}
 use mathlib.Core.Bool.{cond}
-use mathlib.Core.List.{List, [], _∷_}
-use Prim.Native.Nat.{ℕ, _+_}
+use mathlib.Core.List.{List, [], _∷_, _++_}
+use Prim.Native.Nat.{ℕ, zero, suc, _+_}
 use lib.Dec.{leb}
 use lib.ListN.{set}
 
@@ -25,3 +25,8 @@ adds g (w ∷ ws) = adds (add g w) ws
 -- the words ws lead from the buffer l and the index i to l′ and i′
 pub record Writes (l : List ℕ) (i : ℕ) (ws l′ : List ℕ) (i′ : ℕ) : Type 0 where
   pub is : page l′ i′ ≡ adds (page l i) ws
+
+-- words n times over
+unfoldable pub repeated : ℕ → List ℕ → List ℕ
+repeated zero ws = []
+repeated (suc n) ws = ws ++ repeated n ws

@@ -1,19 +1,15 @@
 -- The words of a lifted sum's coefficients, by the words of the sum's; the steps of two count parts.
 use mathlib.Core.List.{List, [], _∷_, _++_, map, flatMap}
-use Prim.Native.Nat.{ℕ, _+_, _-_, _%_, _^_}
-use lib.Count.{ones}
-use lib.ListN.{length, getD}
-use Rattle.model.specs.Lists.{only}
-use Rattle.model.specs.Sheet.{Step, and-step, bit}
-use Rattle.model.specs.Compose.{Side, S, T, half, Sizes, lift-step}
+use Prim.Native.Nat.{ℕ, _+_, _-_}
+use lib.ListN.{length}
+use Rattle.model.specs.Sheet.{Step, and-step}
+use Rattle.model.specs.Compose.{Side, S, T, Sizes, lift-step}
+use Rattle.compose.specs.Page.{repeated}
 
--- of state q, if it is marked: the words of s from index `first` on have one for each mark, lowest first
-abbrev pub time-of : (s : List ℕ) (marks first q : ℕ) → List ℕ
-time-of s marks first q = only (bit marks q) (getD s (first + ones (marks % 2 ^ q)) 0)
-
--- of each pair, that of its half
-unfoldable pub lifted-times : (s : List ℕ) (marks first : ℕ) → Side → Sizes → List ℕ → List ℕ
-lifted-times s marks first side n xs = flatMap (λ x. time-of s marks first (half side (n .of-T) x)) xs
+-- The pairs of a state of S stand in a row, one for each state of T: a word of S stands that often in a row, and all words of T stand once in each row.
+abbrev pub lifted-times : Side → Sizes → List ℕ → List ℕ
+lifted-times S n ws = flatMap (λ w. repeated (n .of-T) (w ∷ [])) ws
+lifted-times T n ws = repeated (n .of-S) ws
 
 -- two count parts, both lifted, S first, closed by an and
 abbrev pub joint-steps : Sizes → List Step → List Step → List Step

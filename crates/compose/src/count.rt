@@ -3,7 +3,7 @@ ghost use mathlib.Core.Path.{_≡_};
 ghost use mathlib.Core.List.{List, map, flatMap};
 ghost use Prim.Native.Nat.{ℕ, _+_, _≤_};
 ghost use lib.ListN.{length};
-ghost use Rattle.model.specs.Lists.{numbers};
+ghost use lib.Seq.{slice};
 ghost use Rattle.model.specs.Sheet.{Coefficient, Step, mask, bit, sum-words, step-words, count-words};
 ghost use Rattle.model.specs.Compose.{half, lift-sum, lift-step};
 ghost use Rattle.model.proofs.Pairs.{of-side, of-pairs};
@@ -13,14 +13,14 @@ ghost use Rattle.compose.specs.Parts.{SumAt, SumOf, StepAt, StepsAt, Cou
 ghost use Rattle.compose.specs.Sums.{lifted-times, joint-steps};
 use crate::page::copy;
 use crate::page::put;
+use crate::page::repeat_all;
+use crate::page::repeat_each;
 use crate::set::ALL;
 use crate::set::count;
 use crate::set::pair_set;
 use crate::set::put_set;
-use crate::set::rank;
 use crate::side::Side;
 use crate::side::Sizes;
-use crate::side::half;
 use layout::AND;
 use layout::NOT;
 use layout::REMAINDER;
@@ -57,7 +57,8 @@ fn lift_marks(marks: u64, side: Side, sizes: Sizes) -> u64
     }
 }
 
-// Writes the coefficient of its half for each pair whose half is marked, in ascending order.
+// Writes the coefficient of its half for each pair whose half is marked, in ascending order. The pairs of a state of S stand
+// in a row, one for each state of T: a coefficient of S stands that often in a row, and all those of T stand in each row.
 fn lift_times(
     words: &[u32],
     sum: SumHead,
@@ -66,23 +67,13 @@ fn lift_times(
     out: &mut [u32],
     at: usize,
 ) -> usize
-    requires { ⌜ FewPairs (sizes-of sizes) × ((cs : List Coefficient) × (a : ℕ) × SumAt (of-side (side-of side) (sizes-of sizes)) (now words) a cs × SumOf (of-side (side-of side) (sizes-of sizes)) (now words) a cs sum) ⌝ }
-    ensures { λ r. ⌜ Writes (now (out .entry)) at (lifted-times (now (words .entry)) (sum .marks) (sum .from) (side-of side) (sizes-of sizes) (numbers (of-pairs (sizes-of sizes)))) (now (out .exit)) r ⌝ }
+    requires { ⌜ sum .to ≤ length (now words) ⌝ }
+    ensures { λ r. ⌜ Writes (now (out .entry)) at (lifted-times (side-of side) (sizes-of sizes) (slice (sum .from) (sum .to) (now (words .entry)))) (now (out .exit)) r ⌝ }
 {
-    let pairs = sizes.s * sizes.t;
-    let mut next = at;
-    let mut x = 0;
-    while x < pairs {
-        let q = half(side, sizes.t, x);
-        if bits::has(sum.marks, q) {
-            let i = sum.from + rank(sum.marks, q);
-            next = put(out, next, words[i]);
-            x += 1;
-        } else {
-            x += 1;
-        }
+    match side {
+        Side::S => repeat_each(words, sum.from, sum.to, sizes.t, out, at),
+        Side::T => repeat_all(words, sum.from, sum.to, sizes.s, out, at),
     }
-    next
 }
 
 // Writes a sum, lifted.

@@ -28,14 +28,6 @@ pub(crate) fn count(set: u64) -> usize
     u64::count_ones(set) as usize
 }
 
-// How many members lie below `i`: all but those from there on.
-pub(crate) fn rank(set: u64, i: u32) -> usize
-    requires { ⌜ i < 64 ⌝ }
-    ensures { λ r. ⌜ r ≡ ones (set % 2 ^ i) ⌝ }
-{
-    count(set) - count(set >> i)
-}
-
 // Every number below `k`.
 fn all_below(k: u32) -> u64
     requires { ⌜ (1 ≤ k) × (k ≤ 64) ⌝ }

@@ -1,7 +1,7 @@
 // The two sheets of a join, and their pairs of states as numbers.
 ghost use mathlib.Core.Path.{_≡_};
 ghost use Prim.Native.Nat.{_≤_};
-ghost use Rattle.model.specs.Compose.{pair, half, beside, of-other};
+ghost use Rattle.model.specs.Compose.{pair, beside, of-other};
 ghost use Rattle.compose.specs.Sides.{side-of, sizes-of};
 
 pub(crate) enum Side {
@@ -22,17 +22,6 @@ pub(crate) fn of_other(side: Side, sizes: Sizes) -> u32
     match side {
         Side::S => sizes.t,
         Side::T => sizes.s,
-    }
-}
-
-// A sheet's half of a pair, where T has `p` states.
-pub(crate) fn half(side: Side, p: u32, x: u32) -> u32
-    requires { ⌜ 1 ≤ p ⌝ }
-    ensures { λ r. ⌜ r ≡ half (side-of side) p x ⌝ }
-{
-    match side {
-        Side::S => x / p,
-        Side::T => x % p,
     }
 }
 
