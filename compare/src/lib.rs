@@ -5,6 +5,7 @@ pub mod answer;
 pub mod beside;
 pub mod cases;
 pub mod damage;
+pub mod document;
 pub mod generate;
 pub mod laws;
 pub mod linked;

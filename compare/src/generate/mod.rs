@@ -10,7 +10,7 @@ pub mod sweeps;
 pub mod texts;
 pub mod trees;
 
-use crate::cases;
+use crate::document;
 use crate::reference;
 use crate::reference::sheet::Sheet;
 use forms::{print, Item};
@@ -277,7 +277,7 @@ fn judge(random: &mut Random) -> Input {
 
 /// Document 01's sheet S with a few rules more or fewer.
 fn cases_sheet(random: &mut Random) -> Sheet {
-    let mut sheet = reference::sheet::parse(&cases::sheet_s()).expect("S is a sheet");
+    let mut sheet = reference::sheet::parse(&document::sheet_s()).expect("S is a sheet");
     sheet.finals = random.mask(5);
     if random.chance(70) {
         let kind = random.number(2) + 1;
@@ -333,7 +333,7 @@ fn join(random: &mut Random) -> Input {
 
 fn formcheck(random: &mut Random) -> Input {
     let (names, sheet) = if random.chance(30) {
-        (cases::names(), cases_sheet(random))
+        (document::names(), cases_sheet(random))
     } else {
         let count = if random.chance(90) {
             random.between(1, 5)

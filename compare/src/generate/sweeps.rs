@@ -7,7 +7,7 @@ use super::random::Random;
 use super::sheets::{any_content_rule, file, TINY};
 use super::texts::{PREFIXES, PROBE_LIST, SUFFIXES};
 use super::{Call, Input};
-use crate::cases;
+use crate::document;
 use crate::reference::sheet::{Rule, Sheet, Step, Weight};
 use crate::reference::tree::words;
 
@@ -106,8 +106,8 @@ fn pairs(symbols: &[u32], sizes: &[u32]) -> &'static [(u32, u32)] {
 fn base_sheets() -> Vec<Vec<u32>> {
     let minus = |number: u32| 0u32.wrapping_sub(number);
     vec![
-        cases::sheet_s(),
-        cases::sheet_t(),
+        document::sheet_s(),
+        document::sheet_t(),
         vec![1, 64, 0, 1 << 31, 64, 1, 38, 64, 63, 63],
         vec![1, 32, 1 << 31, 0, 1, 1, 33, 1, 31],
         vec![1, 33, 0, 1, 1, 0],
@@ -340,9 +340,9 @@ fn joins() -> impl Iterator<Item = Input> {
 /// Document 01's files, each of them there, empty, or cut by one byte.
 fn missing_files() -> impl Iterator<Item = Input> {
     let files = [
-        cases::NAME_LIST.to_vec(),
-        file(&cases::sheet_s()),
-        cases::CASE_1.to_vec(),
+        document::NAME_LIST.to_vec(),
+        file(&document::sheet_s()),
+        document::CASE_1.to_vec(),
     ];
     (0..27).map(move |number: usize| {
         let version = |place: usize| match number / 3usize.pow(place as u32) % 3 {

@@ -1,6 +1,6 @@
 use super::refusal;
 use crate::answer::{Answer, Implementation};
-use crate::cases::{sheet_s, CASE_1, CASE_3, NAME_LIST};
+use crate::document::{sheet_s, CASE_1, CASE_3, NAME_LIST};
 use crate::generate::sheets::file;
 use crate::reference::Reference;
 

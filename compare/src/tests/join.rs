@@ -1,6 +1,6 @@
 use super::{pattern, refusal};
 use crate::answer::{Answer, Implementation};
-use crate::cases;
+use crate::document;
 use crate::reference::Reference;
 
 /// The answer, and the joint sheet if there is one; the rest of the buffer is as it was.
@@ -243,7 +243,7 @@ fn the_first_limit_is_named() {
 
 #[test]
 fn bad_sheets_and_tags() {
-    let (s, t) = (cases::sheet_s(), cases::sheet_t());
+    let (s, t) = (document::sheet_s(), document::sheet_t());
     assert_eq!(join(&s[..42], &t).0, refusal(9, 42));
     assert_eq!(join(&s, &t[..20]).0, refusal(9, 20_020));
     assert_eq!(join(&s[..42], &t[..20]).0, refusal(9, 42));
@@ -259,11 +259,11 @@ fn buffers() {
     let calls = Reference::default();
     for room in [0, 42] {
         let mut out = pattern(room);
-        let answer = calls.join(&cases::sheet_s(), &cases::sheet_t(), &mut out);
+        let answer = calls.join(&document::sheet_s(), &document::sheet_t(), &mut out);
         assert_eq!(answer, refusal(22, 43));
         assert_eq!(out, pattern(room));
     }
     let mut out = pattern(43);
-    let answer = calls.join(&cases::sheet_s(), &cases::sheet_t(), &mut out);
+    let answer = calls.join(&document::sheet_s(), &document::sheet_t(), &mut out);
     assert_eq!(answer, Answer::Count(43));
 }

@@ -1,6 +1,6 @@
 use super::{pattern, refusal};
 use crate::answer::{Answer, Implementation};
-use crate::cases;
+use crate::document;
 use crate::reference::sheet::{Arc, Order, Rule, Sheet, Step, Weight};
 use crate::reference::Reference;
 
@@ -276,7 +276,7 @@ fn steps_on_steps() {
 #[test]
 fn order_of_refusals() {
     let calls = Reference::default();
-    let s = cases::sheet_s();
+    let s = document::sheet_s();
     let out = &mut [];
     assert_eq!(calls.judge(&[2], &[], out), refusal(9, 0));
     assert_eq!(calls.judge(&s, &[], out), refusal(10, 0));

@@ -12,6 +12,7 @@ mod write;
 
 use crate::answer::{Answer, Implementation};
 use crate::cases;
+use crate::document;
 use crate::reference::Reference;
 
 fn refusal(number: u32, place: usize) -> Answer {
@@ -55,7 +56,7 @@ fn every_byte_has_its_class() {
 /// The buffer is as it was before a refused call.
 #[test]
 fn a_refusal_writes_nothing() {
-    let sheet = cases::sheet_s();
+    let sheet = document::sheet_s();
     let calls = Reference::default();
     for room in [0, 1, 42] {
         let mut out = pattern(room);

@@ -1,6 +1,6 @@
 use super::{pattern, refusal, with_words};
 use crate::answer::{Answer, Implementation};
-use crate::cases;
+use crate::document;
 use crate::generate::sheets::file;
 use crate::reference::Reference;
 
@@ -160,7 +160,7 @@ fn earlier_steps() {
 
 #[test]
 fn short_and_long_sheets() {
-    let sheet = cases::sheet_s();
+    let sheet = document::sheet_s();
     for length in 0..43 {
         assert_eq!(check(&sheet[..length]), refusal(9, length));
     }
@@ -212,7 +212,7 @@ fn from_file(bytes: &[u8], room: usize) -> (Answer, Vec<u32>) {
 
 #[test]
 fn files() {
-    let sheet = cases::sheet_s();
+    let sheet = document::sheet_s();
     let bytes = file(&sheet);
     assert_eq!(bytes[..8], [1, 0, 0, 0, 5, 0, 0, 0]);
     let (answer, words) = from_file(&bytes, 45);
@@ -226,7 +226,7 @@ fn files() {
 
 #[test]
 fn bytes_over() {
-    let bytes = file(&cases::sheet_s());
+    let bytes = file(&document::sheet_s());
     for over in 1..4 {
         let long = [&bytes[..], &vec![0; over]].concat();
         assert_eq!(from_file(&long, 50), (refusal(9, 43), pattern(50)));
