@@ -26,6 +26,17 @@ impl Answer {
             Answer::Refusal(number, place) => format!("error {number} {place}"),
         }
     }
+
+    /// Kind, first value and second value, as the calls for C give them.
+    pub fn numbers(self) -> [u32; 3] {
+        match self {
+            Answer::Count(n) => [0, n, 0],
+            Answer::Accepted(state, looks) => [1, state, looks],
+            Answer::Refused(state, looks) => [2, state, looks],
+            Answer::Stuck(node, looks) => [3, node, looks],
+            Answer::Refusal(number, place) => [4, number, place],
+        }
+    }
 }
 
 /// Nine calls and the program, as functions on slices. A buffer is lent as the last argument.

@@ -1,8 +1,12 @@
-//! Runs the linked library beside the reference on document 01's cases, on the laws between the
+//! Runs the linked library beside the reference on the repository's cases, on the laws between the
 //! calls, on each call's sweep and on drawn inputs, and ends at the first difference.
 //!
 //!     compare [inputs=N] [first=SEED] [call=NAME] [answers] [trace]
 //!         answers: prints also how often each answer was given; trace: each input before it runs
+//!     compare cases
+//!         the case files alone
+//!     compare table
+//!         prints the tables that the reference gives for the case files
 //!     compare damage=NAME
 //!         the same for one call of a damaged reference: the difference must be found
 //!     compare show call=NAME first=SEED
@@ -11,12 +15,13 @@
 
 use compare::answer::Implementation;
 use compare::beside;
-use compare::cases;
+use compare::cases::{self, ForC};
 use compare::damage::{Damage, Damaged, DAMAGES};
 use compare::generate::{Call, CALLS};
 use compare::laws::{self, Tally};
 use compare::linked::Linked;
 use compare::reference::Reference;
+use std::io::Write;
 use std::process::ExitCode;
 use std::time::Instant;
 
@@ -31,6 +36,8 @@ struct Options {
     answers: bool,
     trace: bool,
     show: bool,
+    cases: bool,
+    table: bool,
     sweep: Option<usize>,
 }
 
@@ -43,6 +50,8 @@ fn options() -> Result<Options, String> {
         answers: false,
         trace: false,
         show: false,
+        cases: false,
+        table: false,
         sweep: None,
     };
     for argument in std::env::args().skip(1) {
@@ -56,6 +65,8 @@ fn options() -> Result<Options, String> {
             "answers" => options.answers = true,
             "trace" => options.trace = true,
             "show" => options.show = true,
+            "cases" => options.cases = true,
+            "table" => options.table = true,
             "sweep" => options.sweep = Some(number()? as usize),
             _ => return Err(format!("no option: {argument}")),
         }
@@ -89,6 +100,15 @@ fn main() -> ExitCode {
 
 fn work(options: &Options) -> Result<(), String> {
     let reference = Reference::default();
+    if options.table {
+        let tables = cases::tables(&reference)?;
+        let written = std::io::stdout().write_all(&tables);
+        return written.map_err(|error| error.to_string());
+    }
+    if options.cases {
+        check_cases(&reference)?;
+        return check_cases(&Linked);
+    }
     if options.show {
         let calls = options.call.map_or(CALLS.to_vec(), |call| vec![call]);
         for call in calls {
@@ -136,10 +156,19 @@ fn compare_call(
     Ok(())
 }
 
-/// The ten cases and the laws, by one implementation alone.
-fn check_alone(calls: &dyn Implementation, options: &Options) -> Result<(), String> {
+/// The cases, by one implementation alone.
+fn check_cases(calls: &dyn ForC) -> Result<(), String> {
     let start = Instant::now();
-    cases::check(calls)?;
+    let cases = cases::check(calls)?;
+    let (name, seconds) = (calls.name(), start.elapsed().as_secs_f64());
+    println!("{name}: {cases} cases hold ({seconds:.1} s)");
+    Ok(())
+}
+
+/// The cases and the laws, by one implementation alone.
+fn check_alone(calls: &dyn ForC, options: &Options) -> Result<(), String> {
+    let start = Instant::now();
+    let cases = cases::check(calls)?;
     let mut tally = Tally::default();
     for seed in options.first..options.first + options.inputs {
         laws::words_of_sheet(seed)?;
@@ -147,7 +176,7 @@ fn check_alone(calls: &dyn Implementation, options: &Options) -> Result<(), Stri
         laws::swap_and_join(calls, seed, &mut tally)?;
     }
     let (name, seconds) = (calls.name(), start.elapsed().as_secs_f64());
-    println!("{name}: cases 1 to 10 and the laws hold ({seconds:.1} s)");
+    println!("{name}: {cases} cases and the laws hold ({seconds:.1} s)");
     if options.answers {
         println!("  {tally:?}");
     }

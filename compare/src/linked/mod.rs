@@ -3,6 +3,8 @@
 mod c;
 
 use crate::answer::{Answer, Implementation};
+use crate::cases::ForC;
+use crate::generate::Input;
 
 const ANSWER: usize = 3;
 const UNWRITTEN: u64 = 0x5a5a_5a5a_5a5a_5a5a;
@@ -72,5 +74,31 @@ impl Implementation for Linked {
 
     fn formcheck(&self, list: &[u8], file: &[u8], text: &[u8]) -> Answer {
         answer(|words| c::verdict(list, file, text, words))
+    }
+}
+
+impl ForC for Linked {
+    fn for_c(&self, input: &mut Input, answer: &mut [u64]) -> u32 {
+        match input {
+            Input::CheckNames { list } => c::names(list, answer),
+            Input::Read { list, text, tree } => c::read(list, text, tree, answer),
+            Input::CheckTree { tags, tree } => c::tree(*tags, tree, answer),
+            Input::Write {
+                list,
+                text,
+                tree,
+                out,
+            } => c::write(list, text, tree, out, answer),
+            Input::CheckSheet { sheet } => c::sheet(sheet, answer),
+            Input::SheetFromFile { file, words } => c::sheet_from_file(file, words, answer),
+            Input::Judge {
+                sheet,
+                tree,
+                states,
+            } => c::judge(sheet, tree, states, answer),
+            Input::Swap { sheet, out } => c::swap(sheet, out, answer),
+            Input::Join { first, second, out } => c::join(first, second, out, answer),
+            Input::Formcheck { list, file, text } => c::verdict(list, file, text, answer),
+        }
     }
 }
