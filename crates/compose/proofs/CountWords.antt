@@ -8,9 +8,9 @@ use Rattle.model.specs.Lists.{_∈_}
 use Rattle.model.specs.Sheet.{Step, at-most, remainder, not-step, and-step, or-step, step-words, count-words, StepInRange, StepsInRange}
 use Rattle.model.specs.Compose.{S, T, Sizes, lift-step}
 use Rattle.model.proofs.ListLaws.{each-append}
-use Rattle.model.proofs.Pairs.{of-pairs}
+use Rattle.model.specs.Compose.{of-pairs}
 use Rattle.model.proofs.Spans.{word-there, word-here, word-next}
-use Rattle.compose.specs.Parts.{StepsAt, CountAt}
+use Rattle.model.specs.Spans.{StepsAt, CountAt}
 use Rattle.compose.specs.Sums.{joint-steps}
 
 -- steps refer to steps below 32, as there are no more

@@ -8,13 +8,15 @@ use lib.ListN.{length, getD}
 use Rattle.model.specs.Lists.{has}
 use Rattle.model.specs.Sheet.{Sheet, Rule, one, two, three, W, mask, set-words, rule-words, sheet-words, RuleInRange, bit}
 use Rattle.model.specs.Compose.{Sizes, sizes, joint-rules, joint}
-use Rattle.model.proofs.Spans.{WordsAt, whole, span-right}
-use Rattle.model.proofs.Pairs.{of-pairs}
+use Rattle.model.specs.Spans.{WordsAt}
+use Rattle.model.proofs.Spans.{whole, span-right}
+use Rattle.model.specs.Compose.{of-pairs}
 use Rattle.compose.specs.declared.limits.Tally.{Tally}
 use Rattle.compose.specs.Page.{Writes}
 use Rattle.compose.specs.Sides.{FewPairs}
 use Rattle.compose.specs.Parts.{Passed}
-use Rattle.compose.specs.Rules.{RulesAt, Starts, Chained, FewPositions}
+use Rattle.model.specs.Spans.{RulesAt}
+use Rattle.compose.specs.Rules.{Starts, Chained, FewPositions}
 use Rattle.compose.specs.Limits.{first-place, Tallied}
 use Rattle.compose.specs.Joins.{FewStates, Tables, Joins, head-words}
 use Rattle.compose.proofs.NumberLaws.{mul-le}

@@ -9,12 +9,13 @@ use Rattle.model.specs.Sheet.{Order, Step, Rule, one, two, order-words, count-w
 use Rattle.model.specs.Compose.{pair, S, T, Sizes, lift-order, pair-order, joint-order, lift-step, joint-count, pair-rule, positions-of}
 use Rattle.model.specs.Lists.{only}
 use Rattle.model.proofs.Tests.{eqb-yes}
-use Rattle.model.proofs.Pairs.{of-pairs}
+use Rattle.model.specs.Compose.{of-pairs}
 use Rattle.model.proofs.Spans.{word-there, word-here, span-right}
 use Rattle.compose.specs.declared.rule.Pairing.the-variants.{Apart, Texts, Tags, Contents}
 use Rattle.compose.specs.Sums.{joint-steps}
-use Rattle.compose.specs.Rules.{RuleAt, Content, content, joint-content, there-is, map-of, order-part, count-part, PairedAs, FewPositions}
-use Rattle.compose.proofs.RuleWords.{content-words}
+use Rattle.model.specs.Spans.{RuleAt, Content, content, there-is, map-of, order-part, count-part}
+use Rattle.compose.specs.Rules.{joint-content, PairedAs, FewPositions}
+use Rattle.model.proofs.RuleWords.{content-words}
 
 -- ---- rules of texts and of tags
 

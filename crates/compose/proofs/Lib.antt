@@ -3,11 +3,9 @@ mod PageLaws
 mod SetLaws
 mod SheetWords
 mod OrderWords
-mod PartLaws
 mod SumWords
 mod StepWords
 mod CountWords
-mod RuleWords
 mod PairingLaws
 mod JointLaws
 mod StartLaws

@@ -16,14 +16,16 @@ use Rattle.model.specs.Compose.{Side, S, T, Sizes, of-other, lift-arc, pair-arc
 use Rattle.model.proofs.Tests.{Yes, eqb-yes, Told, yea, nay, told}
 use Rattle.model.proofs.ListLaws.{every-∈, length-from, length-each}
 use Rattle.model.proofs.JoinRange.{pair-rule-count}
-use Rattle.compose.specs.Rules.{RuleAt, Content, content, joint-content, ordered, counted, order-part, PairedAs, FewPositions}
+use Rattle.model.specs.Spans.{RuleAt, Content, content, ordered, counted, order-part}
+use Rattle.compose.specs.Rules.{joint-content, PairedAs, FewPositions}
 use Rattle.compose.specs.declared.rule.Pairing.the-variants.{Apart, Texts, Tags}
 use Rattle.compose.specs.declared.limits.Extent.{Extent}
 use Rattle.compose.specs.declared.limits.Tally.{Tally}
 use Rattle.compose.specs.Limits.{place, first-of, place-in, first-place, order-positions, order-arcs, count-steps, ExtentOf, TallyOf, Tallied}
-use Rattle.compose.proofs.OrderWords.{length-grid, order-room, head-of}
+use Rattle.compose.proofs.OrderWords.{length-grid, head-of}
+use Rattle.model.proofs.RuleWords.{order-room}
 use Rattle.compose.proofs.CountWords.{count-fields}
-use Rattle.compose.proofs.RuleWords.{has-order, no-order, has-count, no-count}
+use Rattle.model.proofs.RuleWords.{has-order, no-order, has-count, no-count}
 
 -- ---- the first of three places
 

@@ -3,7 +3,7 @@ use Prim.Native.Nat.{ℕ, _*_, _≤_, _<_}
 use native.Mathlib.Nat.{le-trans, mul-le-mul-left, mul-le-mul-right, mod-lt, div-lt-iff-lt-mul}
 use native.Mathlib.Omega.{arith}
 use Rattle.model.specs.Compose.{Side, S, T, half, Sizes, of-other}
-use Rattle.model.proofs.Pairs.{of-side, of-pairs}
+use Rattle.model.specs.Compose.{of-side, of-pairs}
 use Rattle.compose.specs.Sides.{FewPairs}
 
 pub mul-le : (a b : ℕ) {x y : ℕ} → a ≤ x → b ≤ y → a * b ≤ x * y

@@ -11,24 +11,16 @@ use Rattle.model.specs.Lists.{_∈_, has, numbers, row, grid}
 use Rattle.model.specs.Sheet.{W, mask, set-words, bit, Arc, arc-word, arc-of, Order, order-words, ArcInRange, OrderInRange}
 use Rattle.model.specs.Compose.{pair, Side, Sizes, of-other, lift-arc, lift-order, pair-arc, pair-order}
 use Rattle.model.proofs.ListLaws.{length-from, map-append}
-use Rattle.model.proofs.Spans.{WordsAt, word-there, word-here, span-right}
+use Rattle.model.specs.Spans.{WordsAt}
+use Rattle.model.proofs.PartLaws.{words-from}
+use Rattle.model.proofs.RuleWords.{order-room}
+use Rattle.model.proofs.Spans.{word-there, word-here, span-right}
 use Rattle.compose.specs.Arcs.{lifted-arc, paired-arc}
 use Rattle.compose.specs.declared.order.OrderHead.{OrderHead}
-use Rattle.compose.specs.Parts.{OrderAt, HeadOf}
+use Rattle.model.specs.Spans.{OrderAt}
+use Rattle.compose.specs.Parts.{HeadOf}
 use Rattle.compose.proofs.NumberLaws.{mul-le}
 use Rattle.compose.proofs.SetLaws.{pairs-mask}
-
--- ---- words in a list
-
--- words that stand from a up to b are those from a up to b
-pub words-from : {s ws : List ℕ} {a b : ℕ} → WordsAt s a b ws → a ≤ length s → slice a b s ≡ ws
-words-from {s} {ws} {a} {b} w h =
-    let k = length ws in
-    let e : take b s ≡ take a s ++ take k (drop a s) = ap (λ (n : ℕ). take n s) (w .ends) ∙ take-add a k s in
-    ap (drop a) e ∙ drop-at (take a s) (take k (drop a s)) a (length-take-le a s h) ∙ ap (take k) (w .stands) ∙ take-at ws (drop b s) k refl
-
-pub words-end : {s ws : List ℕ} {a b : ℕ} → WordsAt s a b ws → a ≤ length s → b ≤ length s
-words-end {s} {ws} {a} {b} w h = omega (arith, ap length (w .stands), length-append ws (drop b s), length-drop a s, w .ends)
 
 -- ---- grids
 
@@ -69,14 +61,6 @@ arc-back a hp hm h =
 
 -- where the fields of an order part stand
 module _ {p a : ℕ} {s : List ℕ} {o : Order} (h : OrderAt p s a o) where
-  pub order-room : (a + 4 + length (o .arcs) ≤ length s) × (getD s (a + 3) 0 ≡ length (o .arcs))
-  unfolding order-words set-words
-  order-room =
-      let n = mask (o .positions) (has (o .accepting)) in
-      let head : List ℕ = o .positions ∷ n % W ∷ n / W ∷ [] in
-      let count = span-right head (length (o .arcs) ∷ map arc-word (o .arcs)) (h .there) in
-      (omega (arith, word-there count, words-end (h .there) (omega (arith, word-there (h .there))), h .there .ends, length-map (o .arcs) arc-word), word-here count)
-
   pub head-of : (arcs set : ℕ) → arcs ≡ getD s (a + 3) 0 → set ≡ getD s (a + 1) 0 + getD s (a + 2) 0 * W
       → HeadOf s o (record { positions = getD s a 0; accepting = set; arcs = arcs; from = a + 4; to = a + 4 + arcs })
   unfolding order-words set-words
@@ -86,7 +70,7 @@ module _ {p a : ℕ} {s : List ℕ} {o : Order} (h : OrderAt p s a o) where
       let low : getD s (a + 1) 0 ≡ n % W = word-here (span-right (o .positions ∷ []) (n % W ∷ n / W ∷ length (o .arcs) ∷ ws) (h .there)) in
       let high : getD s (a + 2) 0 ≡ n / W = word-here (span-right (o .positions ∷ n % W ∷ []) (n / W ∷ length (o .arcs) ∷ ws) (h .there)) in
       let body = span-right (o .positions ∷ n % W ∷ n / W ∷ length (o .arcs) ∷ []) ws (h .there) in
-      let (room, count) = order-room in
+      let (room, count) = order-room h in
       let e : arcs ≡ length (o .arcs) = ea ∙ count in
       let last : a + 4 + arcs ≡ h .end = omega (arith, body .ends, length-map (o .arcs) arc-word) in
       record {

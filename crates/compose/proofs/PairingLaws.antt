@@ -13,17 +13,9 @@ use Rattle.model.proofs.Tests.{Yes, and-left, and-right, or-left, or-right, or-
 use Rattle.model.proofs.Spans.{word-here, word-next}
 use Rattle.compose.specs.declared.rule.Pairing.{Pairing}
 use Rattle.compose.specs.declared.rule.Pairing.the-variants.{Apart, Texts, Tags, Contents}
-use Rattle.compose.specs.Rules.{RuleAt, content, PairedAs}
-use Rattle.compose.proofs.RuleWords.{IsContent, as-text, as-tag, as-content}
-
--- the second word of a rule of a text, and of a tag
-pub text-key : {p a k q : ℕ} {s : List ℕ} → RuleAt p s a (one k q) → (getD s a 0 ≡ 33) × (getD s (a + 1) 0 ≡ k)
-unfolding rule-words
-text-key h = (word-here (h .there), word-here (word-next (h .there)))
-
-pub tag-key : {p a g c q : ℕ} {s : List ℕ} → RuleAt p s a (two g c q) → (getD s a 0 ≡ 38) × (getD s (a + 1) 0 ≡ g)
-unfolding rule-words
-tag-key h = (word-here (h .there), word-here (word-next (h .there)))
+use Rattle.model.specs.Spans.{RuleAt, content}
+use Rattle.compose.specs.Rules.{PairedAs}
+use Rattle.model.proofs.RuleWords.{IsContent, as-text, as-tag, as-content}
 
 -- the second rule has the map, and the second words are the same
 abbrev alike : (s t : List ℕ) (a b map : ℕ) → Bool

@@ -13,7 +13,8 @@ use Rattle.model.specs.Sheet.{mask, bit}
 use Rattle.model.specs.Compose.{pair, Side, S, T, half, Sizes}
 use Rattle.model.proofs.Tests.{Told, yea, nay, told, and-yes}
 use Rattle.model.proofs.ListLaws.{∈-has, has-∈, has-no, pair-left, pair-right}
-use Rattle.model.proofs.Pairs.{either, on-both, of-pairs, ∈-pairs}
+use Rattle.model.specs.Compose.{of-pairs}
+use Rattle.model.proofs.Pairs.{either, on-both, ∈-pairs}
 use Rattle.model.proofs.SetWords.{bit-mask, mask-<}
 use Rattle.bits.proofs.BitLaws.{mask-like, mask-bits, bit-and}
 use Rattle.compose.specs.Sides.{FewPairs}

@@ -11,9 +11,11 @@ use Rattle.model.specs.Lists.{_∈_}
 use Rattle.model.specs.Sheet.{Rule, one, rule-words, RuleInRange}
 use Rattle.model.proofs.Tests.{Told, yea, nay, told, same, eqb-no}
 use Rattle.model.proofs.ListLaws.{∈-each, each-append}
-use Rattle.model.proofs.Chains.{nth, rules-next}
-use Rattle.compose.specs.Rules.{RuleAt, RulesAt, Starts}
-use Rattle.compose.proofs.PartLaws.{PartsLeft, Next, next-part}
+use Rattle.model.specs.Index.{nth}
+use Rattle.model.proofs.Chains.{rules-next}
+use Rattle.model.specs.Spans.{RuleAt, RulesAt}
+use Rattle.compose.specs.Rules.{Starts}
+use Rattle.model.proofs.PartLaws.{PartsLeft, Next, next-part}
 
 -- the starts of the first k rules are found, and the rest stands from i on
 pub record Found (p : ℕ) (s : List ℕ) (xs : List Rule) (starts : List ℕ) (i k : ℕ) : Type 0 where

@@ -8,10 +8,11 @@ use lib.ListN.{length, getD, length-append}
 use lib.Seq.{slice}
 use Rattle.model.specs.Sheet.{Coefficient, Step, at-most, remainder, not-step, and-step, or-step, signed-word, sum-words, step-words, SumInRange}
 use Rattle.model.specs.Compose.{Side, Sizes, lift-sum, lift-step}
-use Rattle.model.proofs.Pairs.{of-pairs}
-use Rattle.model.proofs.Spans.{WordsAt, word-there, word-here, word-next, span-left, span-right}
-use Rattle.compose.specs.Parts.{SumAt, StepAt}
-use Rattle.compose.proofs.OrderWords.{words-from, words-end}
+use Rattle.model.specs.Compose.{of-pairs}
+use Rattle.model.specs.Spans.{WordsAt}
+use Rattle.model.proofs.Spans.{word-there, word-here, word-next, span-left, span-right}
+use Rattle.model.specs.Spans.{SumAt, StepAt}
+use Rattle.model.proofs.PartLaws.{words-from, words-end}
 
 -- a step that begins with a sum: as many words follow as its kind says
 pub record SumStep (p : ℕ) (s : List ℕ) (a : ℕ) (x : Step) : Type 0 where

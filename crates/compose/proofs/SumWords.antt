@@ -14,16 +14,18 @@ use Rattle.model.specs.Sheet.{W, mask, set-words, bit, Coefficient, signed-word
 use Rattle.model.specs.Compose.{pair, Side, S, T, half, Sizes, coefficient-of, lift-sum}
 use Rattle.model.proofs.Tests.{Told, yea, nay, told, same, eqb-yes, eqb-no, eqb-false}
 use Rattle.model.proofs.ListLaws.{∈-has, has-∈, has-no, ∈-map, map-∈, map-each, each-append, ∈-each, each-∈, ∈-only, only-test, only-eq, from-∈, ∈-numbers, numbers-<, grid-∈, asc-ext, asc-from, asc-grid}
-use Rattle.model.proofs.Pairs.{either, of-side, of-pairs, half-pair, ∈-pairs}
+use Rattle.model.specs.Compose.{of-side, of-pairs}
+use Rattle.model.proofs.Pairs.{either, half-pair, ∈-pairs}
 use Rattle.model.proofs.SetWords.{bit-mask}
 use Rattle.model.proofs.Spans.{word-there, word-here, span-right}
 use Rattle.bits.proofs.BitLaws.{mask-like}
 use Rattle.compose.specs.Page.{repeated}
 use Rattle.compose.specs.declared.count.SumHead.{SumHead}
-use Rattle.compose.specs.Parts.{SumAt, SumOf}
+use Rattle.model.specs.Spans.{SumAt}
+use Rattle.compose.specs.Parts.{SumOf}
 use Rattle.compose.specs.Sums.{lifted-times}
 use Rattle.compose.proofs.NumberLaws.{half-below}
-use Rattle.compose.proofs.OrderWords.{words-from, words-end}
+use Rattle.model.proofs.PartLaws.{words-from, words-end}
 
 -- ---- how many members a set has
 

@@ -9,7 +9,7 @@ use lib.ListN.{length}
 use Rattle.model.specs.Lists.{every}
 use Rattle.model.specs.Sheet.{Order, Step, Rule, RuleInRange}
 use Rattle.model.specs.Compose.{positions-of, arcs-of, steps-of}
-use Rattle.compose.specs.Rules.{Content, content}
+use Rattle.model.specs.Spans.{Content, content}
 use Rattle.compose.specs.declared.limits.Extent.{Extent}
 use Rattle.compose.specs.declared.limits.Tally.{Tally}
 

@@ -11,7 +11,8 @@ use Rattle.model.specs.Sheet.{Rule, one, two, three}
 use Rattle.model.specs.Run.{at-tag}
 use Rattle.model.proofs.Tests.{eqb-false}
 use Rattle.model.proofs.Spans.{Along}
-use Rattle.model.proofs.Chains.{nth, chained-none, chained-more}
+use Rattle.model.specs.Index.{nth}
+use Rattle.model.proofs.Chains.{chained-none, chained-more}
 use Rattle.judge.specs.Index.{rules-in, rules-of, TwoIn, Indexed, tag, Chained}
 use Rattle.judge.proofs.KindLaws.{along-length, along-set}
 use Rattle.judge.proofs.TargetLaws.{two-room}

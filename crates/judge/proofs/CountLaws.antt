@@ -11,7 +11,8 @@ use lib.ListN.{length, getD, length-append}
 use Rattle.model.specs.Lists.{has}
 use Rattle.model.specs.Sheet.{Step, mask, step-words, count-words, StepsInRange, bit}
 use Rattle.model.specs.Words.{holds, truths, fits-count}
-use Rattle.model.proofs.Spans.{WordsAt, span-left, span-right, word-next, whole}
+use Rattle.model.specs.Spans.{WordsAt}
+use Rattle.model.proofs.Spans.{span-left, span-right, word-next, whole}
 use Rattle.model.proofs.SetWords.{mask-<}
 use Rattle.bits.proofs.SetLaws.{none-stands, bit-with}
 use Rattle.judge.specs.Parts.{Occurs, Counts, CountPart, StepAt, Truths, Judged}

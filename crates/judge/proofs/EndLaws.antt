@@ -9,7 +9,8 @@ use native.Mathlib.Omega.{arith}
 use lib.ListN.{length, getD, length-map}
 use Rattle.model.specs.Lists.{has, SetBelow}
 use Rattle.model.specs.Sheet.{Coefficient, Step, at-most, remainder, not-step, and-step, or-step, Rule, W, mask, set-words, arc-word, signed-word, order-words, marks, sum-words, step-words, count-words, SumInRange, StepInRange, StepsInRange, members}
-use Rattle.model.proofs.Spans.{WordsAt, span-left, span-right, word-there, word-here, word-next}
+use Rattle.model.specs.Spans.{WordsAt}
+use Rattle.model.proofs.Spans.{span-left, span-right, word-there, word-here, word-next}
 use Rattle.bits.proofs.SetLaws.{stands-members, words-stand}
 use Rattle.judge.specs.Parts.{SumAt, StepAt}
 use Rattle.judge.specs.Index.{OrderAt, CountAt, ThreeAt, plain, ordered, summed, both}

@@ -7,7 +7,7 @@ use native.Mathlib.Omega.{arith}
 use lib.ListN.{length, getD, take, drop, length-append, length-drop}
 use lib.Seq.{take-at}
 use Rattle.model.specs.Run.{child-states}
-use Rattle.model.proofs.Spans.{WordsAt}
+use Rattle.model.specs.Spans.{WordsAt}
 use Rattle.judge.specs.Parts.{states-of}
 
 -- the part from word a up to word b

@@ -12,7 +12,8 @@ use lib.ListN.{length, getD}
 use borrow.Author.Tests.{ne-eqb}
 use Rattle.model.specs.Sheet.{Step, at-most, remainder, not-step, and-step, or-step, sum-words, signed-word, step-words, StepInRange, signed, bit}
 use Rattle.model.specs.Words.{total, remainder-of, holds}
-use Rattle.model.proofs.Spans.{WordsAt, span-left, span-right, word-there, word-here, word-next}
+use Rattle.model.specs.Spans.{WordsAt}
+use Rattle.model.proofs.Spans.{span-left, span-right, word-there, word-here, word-next}
 use Rattle.judge.specs.Parts.{Occurs, SumAt, Summed, StepAt, Truths}
 use Rattle.judge.proofs.SumLaws.{signed-back}
 

@@ -12,7 +12,8 @@ use Rattle.model.specs.Lists.{_∈_}
 use Rattle.model.specs.Sheet.{Coefficient, W, set-words, signed-word, marks, sum-words, small, signed-32, members, signed}
 use Rattle.model.specs.Words.{occurrences, total}
 use Rattle.model.proofs.Tests.{Yes, between-inv}
-use Rattle.model.proofs.Spans.{WordsAt, word-there, word-here, word-next}
+use Rattle.model.specs.Spans.{WordsAt}
+use Rattle.model.proofs.Spans.{word-there, word-here, word-next}
 use Rattle.model.proofs.SetWords.{members-set}
 use Rattle.bits.specs.Stands.{Stands}
 use Rattle.bits.proofs.SetLaws.{stands-none, stands-some, members-stand, stands-members, words-stand}

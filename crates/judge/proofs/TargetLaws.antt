@@ -11,7 +11,7 @@ use Rattle.model.specs.Sheet.{Rule, one, mask, bit}
 use Rattle.model.specs.Run.{at-text, at-tag}
 use Rattle.model.proofs.Tests.{eqb-yes}
 use Rattle.model.proofs.Spans.{Along}
-use Rattle.model.proofs.Chains.{nth}
+use Rattle.model.specs.Index.{nth}
 use Rattle.bits.specs.Stands.{Stands}
 use Rattle.bits.proofs.SetLaws.{Gathers, gathers-none, gathers-more, gathers-all}
 use Rattle.judge.specs.Index.{OneAt, one-at, TwoAt, two-at, TwoIn, tag}

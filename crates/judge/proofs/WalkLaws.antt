@@ -11,7 +11,8 @@ use lib.ListN.{length, getD, take, set, length-set}
 use Rattle.model.specs.Lists.{_∈_, only}
 use Rattle.model.specs.Sheet.{Rule, one, two, three, W, set-words, order-words, count-words, rule-words, sheet-words, RuleInRange, InRange}
 use Rattle.model.specs.Run.{kind}
-use Rattle.model.proofs.Spans.{WordsAt, whole, span-left, span-right, word-here, word-next, Along, done, also}
+use Rattle.model.specs.Spans.{WordsAt}
+use Rattle.model.proofs.Spans.{whole, span-left, span-right, word-here, word-next, Along, done, also}
 use Rattle.model.proofs.SheetCode.{sheet-passes}
 use Rattle.bits.specs.Stands.{Stands}
 use Rattle.bits.proofs.SetLaws.{words-stand}

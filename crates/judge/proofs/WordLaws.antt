@@ -6,7 +6,7 @@ use native.Mathlib.Numerals.{add-one}
 use native.Mathlib.Omega.{arith}
 use lib.ListN.{length, getD, take, drop, set, length-append, length-take, length-drop, List·getD-append}
 use lib.Seq.{getD-drop, take-at, take-suc-set}
-use Rattle.model.proofs.Spans.{WordsAt}
+use Rattle.model.specs.Spans.{WordsAt}
 
 module _ {s ws : List ℕ} {a b : ℕ} (w : WordsAt s a b ws) where
   pub words-within : 0 < length ws → b ≤ length s

@@ -10,7 +10,8 @@ use Rattle.model.specs.Lists.{only}
 use Rattle.model.specs.Answers.{Checked, passes, refuses}
 use Rattle.model.specs.Sheet.{Order, Step, Rule, one, two, three, Sheet, order-words, count-words, OrderInRange, CountInRange, sheet-of}
 use Rattle.model.specs.Run.{kind}
-use Rattle.model.proofs.Spans.{WordsAt, Along}
+use Rattle.model.specs.Spans.{WordsAt}
+use Rattle.model.proofs.Spans.{Along}
 use Rattle.model.proofs.Chains.{ChainedBy}
 
 -- ---- the sheet of words that pass

@@ -7,7 +7,7 @@ use lib.IntN.{ℤ}
 use lib.ListN.{length, getD}
 use Rattle.model.specs.Sheet.{Order, Coefficient, Step, order-words, sum-words, step-words, count-words, OrderInRange, SumInRange, StepInRange, CountInRange, bit, arc-of}
 use Rattle.model.specs.Words.{last-set, reads-from, occurrences, total, holds}
-use Rattle.model.proofs.Spans.{WordsAt}
+use Rattle.model.specs.Spans.{WordsAt}
 use Rattle.bits.specs.Stands.{Stands}
 
 -- ---- children

@@ -9,11 +9,8 @@ use lib.Dec.{eqb}
 use lib.ListN.{length, getD, drop, set, replicate, drop-of-length-le, length-set, length-replicate, getD-replicate}
 use lib.Seq.{drop-cons, getD-set-same, getD-set-other}
 use Rattle.model.specs.Sheet.{Rule, one}
+use Rattle.model.specs.Index.{nth}
 use Rattle.model.proofs.Tests.{Told, yea, nay, told, same, eqb-no}
-
--- rule j
-abbrev pub nth : List Rule → ℕ → Rule
-nth xs j = getD xs j (one 0 0)
 
 -- the first rule with the key k from index a on is rule i, or there is none and i is the number of rules
 pub record First (key : Rule → ℕ) (xs : List Rule) (k a i : ℕ) : Type 0 where
@@ -21,6 +18,20 @@ pub record First (key : Rule → ℕ) (xs : List Rule) (k a i : ℕ) : Type 0 wh
   pub few : i ≤ length xs
   pub there : i < length xs → key (nth xs i) ≡ k
   pub least : (j : ℕ) → a ≤ j → j < i → key (nth xs j) ≢ k
+
+-- rules that give nothing may be passed over
+skip : {B : Type 0} (f : Rule → List B) (xs : List Rule) (a b : ℕ) → a ≤ b → ((j : ℕ) → a ≤ j → j < b → f (nth xs j) ≡ []) → flatMap f (drop a xs) ≡ flatMap f (drop b xs)
+unfolding flatMap
+skip f [] a b l h = ap (flatMap f) (drop-of-length-le [] {i = a} (omega arith) ∙ sym (drop-of-length-le [] {i = b} (omega arith)))
+skip f (x ∷ xs) zero zero l h = refl
+skip f (x ∷ xs) zero (suc b) l h = ap (λ zs. zs ++ flatMap f xs) (h 0 (omega arith) (omega arith)) ∙ skip f xs zero b (omega arith) (λ j m n. h (suc j) (omega arith) (omega arith))
+skip f (x ∷ xs) (suc a) zero l h = absurd (omega arith)
+skip f (x ∷ xs) (suc a) (suc b) l h = skip f xs a b (omega arith) (λ j m n. h (suc j) (omega arith) (omega arith))
+
+-- what is given from the first rule with key k on, where a rule with another key gives nothing
+pub past : {key : Rule → ℕ} {xs : List Rule} {B : Type 0} (f : Rule → List B) {k : ℕ} → ((x : Rule) → key x ≢ k → f x ≡ [])
+    → {a i : ℕ} → First key xs k a i → flatMap f (drop a xs) ≡ flatMap f (drop i xs)
+past {xs = xs} f apart {a} {i} h = skip f xs a i (h .later) (λ j m n. apart (nth xs j) (h .least j m n))
 
 -- the rules from index a on are chained by keys below `keys`: `heads` has the first of each key, and `read` finds the next with a rule's key in the rule's entry of `nexts`
 pub record ChainedBy (key : Rule → ℕ) (keys : ℕ) (read : ℕ → ℕ) (xs : List Rule) (heads nexts : List ℕ) (a : ℕ) : Type 0 where
@@ -36,31 +47,19 @@ pub rules-next : (xs : List Rule) {n j : ℕ} → length xs ≡ n → j < n → 
 unfolding flatMap
 rules-next xs {j = j} number l f = ap (flatMap f) (drop-cons xs j (one 0 0) (omega arith)) ∙ ap (λ (k : ℕ). f (nth xs j) ++ flatMap f (drop k xs)) (sym (add-one j))
 
--- rules that give nothing may be passed over
-skip : {B : Type 0} (f : Rule → List B) (xs : List Rule) (a b : ℕ) → a ≤ b → ((j : ℕ) → a ≤ j → j < b → f (nth xs j) ≡ []) → flatMap f (drop a xs) ≡ flatMap f (drop b xs)
-unfolding flatMap
-skip f [] a b l h = ap (flatMap f) (drop-of-length-le [] {i = a} (omega arith) ∙ sym (drop-of-length-le [] {i = b} (omega arith)))
-skip f (x ∷ xs) zero zero l h = refl
-skip f (x ∷ xs) zero (suc b) l h = ap (λ zs. zs ++ flatMap f xs) (h 0 (omega arith) (omega arith)) ∙ skip f xs zero b (omega arith) (λ j m n. h (suc j) (omega arith) (omega arith))
-skip f (x ∷ xs) (suc a) zero l h = absurd (omega arith)
-skip f (x ∷ xs) (suc a) (suc b) l h = skip f xs a b (omega arith) (λ j m n. h (suc j) (omega arith) (omega arith))
-
 module _ {key : Rule → ℕ} {keys : ℕ} {read : ℕ → ℕ} {xs : List Rule} {heads nexts : List ℕ} (c : ChainedBy key keys read xs heads nexts 0) where
   -- what is given along the chain of key k, where a rule with another key gives nothing
   module _ {B : Type 0} (f : Rule → List B) {k : ℕ} (apart : (x : Rule) → key x ≢ k → f x ≡ []) where
-    past : {a i : ℕ} → First key xs k a i → flatMap f (drop a xs) ≡ flatMap f (drop i xs)
-    past {a} {i} h = skip f xs a i (h .later) (λ j m n. apart (nth xs j) (h .least j m n))
-
     pub chain-first : {q i : ℕ} → q ≡ k → q < keys → i ≡ getD heads q 0 → (flatMap f xs ≡ flatMap f (drop i xs)) × (i < length xs → key (nth xs i) ≡ k)
     chain-first {q} {i} e l is =
         let h : First key xs k 0 i = rw (is, ← e) (c .head q l) in
-        (past h, h .there)
+        (past f apart h, h .there)
 
     pub chain-next : {j i : ℕ} → j < length xs → key (nth xs j) ≡ k → i ≡ read (getD nexts j 0)
         → (flatMap f (drop j xs) ≡ f (nth xs j) ++ flatMap f (drop i xs)) × (i < length xs → key (nth xs i) ≡ k)
     chain-next {j} {i} l e is =
         let h : First key xs k (j + 1) i = rw (is, ← e) (c .next j (omega arith) l) in
-        (rules-next xs refl l f ∙ ap (λ zs. f (nth xs j) ++ zs) (past h), h .there)
+        (rules-next xs refl l f ∙ ap (λ zs. f (nth xs j) ++ zs) (past f apart h), h .there)
 
   -- the chain comes to its end
   pub chain-later : {j i : ℕ} → j < length xs → i ≡ read (getD nexts j 0) → j < i

@@ -17,7 +17,8 @@ use Rattle.model.specs.Words.{occurrences, total, remainder-of, holds, t
 use Rattle.model.specs.Compose.{Side, S, T, half, Sizes, coefficient-of, lift-sum, lift-step, joint-count}
 use Rattle.model.proofs.Tests.{eqb-yes, eqb-false}
 use Rattle.model.proofs.ListLaws.{∈-numbers, asc-from}
-use Rattle.model.proofs.Pairs.{of-pairs, AllBelow, halves}
+use Rattle.model.specs.Compose.{of-pairs}
+use Rattle.model.proofs.Pairs.{AllBelow, halves}
 
 -- ---- sums, state by state
 

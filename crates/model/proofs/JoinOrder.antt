@@ -9,7 +9,8 @@ use Rattle.model.specs.Sheet.{Arc, Order, OrderInRange, IfAny}
 use Rattle.model.specs.Words.{Path-of, InLanguage}
 use Rattle.model.specs.Compose.{pair, Side, S, T, half, beside, Sizes, of-other, lift-arc, lift-order, pair-arc, pair-order, joint-order}
 use Rattle.model.proofs.ListLaws.{∈-grid, grid-∈, ∈-numbers, numbers-<}
-use Rattle.model.proofs.Pairs.{either, on-both, of-side, of-pairs, half-pair, pair-halves, same-halves, half-zero, ∈-pairs, half-beside, beside-half, AllBelow, halves}
+use Rattle.model.specs.Compose.{of-side, of-pairs}
+use Rattle.model.proofs.Pairs.{either, on-both, half-pair, pair-halves, same-halves, half-zero, ∈-pairs, half-beside, beside-half, AllBelow, halves}
 
 -- an arc leaves position i and reads state q, and a path leads on from it
 abbrev Begins : List Arc → ℕ → ℕ → List ℕ → ℕ → Arc → Type 0

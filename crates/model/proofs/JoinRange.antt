@@ -19,7 +19,8 @@ use Rattle.model.specs.Compose.{pair, Side, S, T, half, Sizes, of-other,
 use Rattle.model.proofs.Tests.{Yes, never, same, eqb-like}
 use Rattle.model.proofs.ListLaws.{every-∈, ∈-every, only-eq, each-∈, length-each, map-append, numbers-<, grid-∈, asc-filter, asc-grid, has-no, map-each, length-only}
 use Rattle.model.proofs.CheckLaws.{require-is, required}
-use Rattle.model.proofs.Pairs.{either, on-both, of-side, of-pairs, beside-below}
+use Rattle.model.specs.Compose.{of-side, of-pairs}
+use Rattle.model.proofs.Pairs.{either, on-both, beside-below}
 use Rattle.model.proofs.Product.{Paired, ones, twos, threes, joint-∈}
 
 -- ---- the limits

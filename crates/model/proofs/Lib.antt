@@ -5,6 +5,10 @@ pub mod Spans
 pub mod Chains
 pub mod SetWords
 pub mod SheetCode
+pub mod PartLaws
+pub mod RuleWords
+pub mod PassedLaws
+pub mod IndexLaws
 pub mod TreeView
 pub mod TreeLaws
 pub mod WordLaws

@@ -7,7 +7,7 @@ use native.Mathlib.Nat.{zero-div, zero-mod, div-add-mod', mod-lt, div-lt-iff-lt-
 use native.Mathlib.Omega.{arith}
 use lib.Arith.{digits-lt}
 use Rattle.model.specs.Lists.{_∈_, grid}
-use Rattle.model.specs.Compose.{pair, Side, S, T, half, beside, Sizes, of-other}
+use Rattle.model.specs.Compose.{pair, Side, S, T, half, beside, Sizes, of-other, of-side, of-pairs}
 use Rattle.model.proofs.ListLaws.{∈-grid, grid-∈, pair-left, pair-right}
 
 -- a thing for each side; a proof for each side
@@ -18,14 +18,6 @@ either a b T = b
 pub on-both : (P : Side → Type 0) → P S → P T → (side : Side) → P side
 on-both P a b S = a
 on-both P a b T = b
-
--- the number of states of a side's sheet; of pairs of states
-abbrev pub of-side : Side → Sizes → ℕ
-of-side S n = n .of-S
-of-side T n = n .of-T
-
-abbrev pub of-pairs : Sizes → ℕ
-of-pairs n = n .of-S * n .of-T
 
 -- ---- a pair has its halves, and the halves make the pair
 

@@ -15,7 +15,8 @@ use Rattle.model.specs.Lists.{_∈_, from, numbers, SetBelow}
 use Rattle.model.specs.Answers.{passes, refuses}
 use Rattle.model.specs.Sheet.{Arc, Coefficient, Step, at-most, remainder, not-step, and-step, or-step, Rule, one, two, three, Sheet, W, signed-word, arc-word, order-words, marks, sum-words, step-words, count-words, rule-words, sheet-words, small, signed-32, ArcInRange, OrderInRange, SumInRange, StepInRange, StepsInRange, CountInRange, RuleInRange, InRange, Got, got, bad, below, arc-of, arc-ok, arc, order, signed, coefficient, sum, at-most-step, remainder-step, one-earlier, two-earlier, step, steps, target, text-rule, tag-rule, order-rule, count-rule, order-count-rule, rule, sheet, ended, sheet-of}
 use Rattle.model.proofs.Tests.{Yes, Told, yea, nay, told, and-yes, and-left, and-right, same, eqb-yes, between-inv}
-use Rattle.model.proofs.Spans.{WordsAt, word-next, whole, whole-inv, Reads, Makes, as-made, reads-by, word-reads, below-reads, between-reads, then-makes, given, Along, done, also, all-reads, one-more, repeated, singly, at-key, no-row, row, one-of-reads}
+use Rattle.model.specs.Spans.{WordsAt}
+use Rattle.model.proofs.Spans.{word-next, whole, whole-inv, Reads, Makes, as-made, reads-by, word-reads, below-reads, between-reads, then-makes, given, Along, done, also, all-reads, one-more, repeated, singly, at-key, no-row, row, one-of-reads}
 use Rattle.model.proofs.SetWords.{set-reads}
 
 -- what two tests in one say

@@ -11,16 +11,12 @@ use lib.ListN.{length, getD, drop, length-append, length-drop, drop-of-length-le
 use lib.Seq.{drop-cons, drop-at, drop-drop}
 use borrow.Author.Tests as tests
 use Rattle.model.specs.Lists.{_∈_, numbers}
+use Rattle.model.specs.Spans.{WordsAt}
 use Rattle.model.specs.Sheet.{Got, got, bad, Reader, give, then, _>>=_, word, between, below, one-of, all}
 use Rattle.model.proofs.Tests.{Yes, same, between-yes, between-inv}
 use Rattle.model.proofs.ListLaws.{length-from}
 
 -- ---- words in a list
-
--- the words ws stand in s from index a up to index b
-pub record WordsAt (s : List ℕ) (a b : ℕ) (ws : List ℕ) : Type 0 where
-  pub stands : drop a s ≡ ws ++ drop b s
-  pub ends : b ≡ a + length ws
 
 span-append : {s : List ℕ} {a b c : ℕ} {u v : List ℕ} → WordsAt s a b u → WordsAt s b c v → WordsAt s a c (u ++ v)
 span-append {s} {a} {b} {c} {u} {v} x y = record {

@@ -38,14 +38,21 @@ abbrev pub beside : Side → ℕ → ℕ → ℕ → ℕ
 beside S p q other = pair p q other
 beside T p q other = pair p other q
 
--- the numbers of states of the two sheets; of the sheet that is not this side's
+-- the numbers of states of the two sheets; of a side's sheet; of the other sheet; of pairs of states
 pub record Sizes : Type 0 where
   pub of-S : ℕ
   pub of-T : ℕ
 
+abbrev pub of-side : Side → Sizes → ℕ
+of-side S n = n .of-S
+of-side T n = n .of-T
+
 abbrev pub of-other : Side → Sizes → ℕ
 of-other S n = n .of-T
 of-other T n = n .of-S
+
+abbrev pub of-pairs : Sizes → ℕ
+of-pairs n = n .of-S * n .of-T
 
 -- ---- order parts
 

@@ -2,6 +2,8 @@ pub mod Lists
 pub mod Answers
 pub mod Tree
 pub mod Sheet
+pub mod Spans
+pub mod Index
 pub mod Words
 pub mod Relation
 pub mod Run

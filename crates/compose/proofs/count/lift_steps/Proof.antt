@@ -6,11 +6,11 @@ use native.Mathlib.Omega.{arith}
 use lib.ListN.{length}
 use Rattle.model.specs.Sheet.{Step, step-words, StepInRange}
 use Rattle.model.specs.Compose.{lift-step}
-use Rattle.model.proofs.Pairs.{of-side, of-pairs}
-use Rattle.compose.specs.Parts.{StepsAt}
+use Rattle.model.specs.Compose.{of-side, of-pairs}
+use Rattle.model.specs.Spans.{StepsAt}
 use Rattle.compose.specs.Sides.{side-of, sizes-of}
 use Rattle.compose.proofs.PageLaws.{Left, begun, more, done, kept}
-use Rattle.compose.proofs.PartLaws.{PartsLeft, next-part, none-left, each-next, each-none}
+use Rattle.model.proofs.PartLaws.{PartsLeft, next-part, none-left, each-next, each-none}
 use borrow.Author.Needs.{needs}
 use Rattle.compose.proofs.count.lift_steps.Statement.{statement}
 use Rattle.compose.proofs.count.lift_steps.Tie as tie

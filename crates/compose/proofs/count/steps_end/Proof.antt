@@ -5,8 +5,8 @@ use Prim.Native.Nat.{ℕ, _+_, _-_}
 use native.Mathlib.Omega.{arith}
 use lib.ListN.{length}
 use Rattle.model.specs.Sheet.{Step, step-words, StepInRange}
-use Rattle.compose.specs.Parts.{StepsAt}
-use Rattle.compose.proofs.PartLaws.{PartsLeft, next-part, none-left, each-length, each-none}
+use Rattle.model.specs.Spans.{StepsAt}
+use Rattle.model.proofs.PartLaws.{PartsLeft, next-part, none-left, each-length, each-none}
 use borrow.Author.Needs.{needs}
 use Rattle.compose.proofs.count.steps_end.Statement.{statement}
 use Rattle.compose.proofs.count.steps_end.Tie as tie

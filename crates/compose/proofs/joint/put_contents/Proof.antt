@@ -4,7 +4,7 @@ use native.Mathlib.Omega.{arith}
 use Rattle.model.specs.Compose.{pair}
 use Rattle.compose.proofs.NumberLaws.{few-S, few-T}
 use Rattle.compose.proofs.PageLaws.{then, as-words}
-use Rattle.compose.proofs.RuleWords.{content-there, is-ordered, is-counted, target-there}
+use Rattle.model.proofs.RuleWords.{content-there, is-ordered, is-counted, target-there}
 use Rattle.compose.proofs.JointLaws.{joint-map, joint-content-words}
 use borrow.Author.Needs.{needs}
 use Rattle.compose.proofs.joint.put_contents.Statement.{statement}

@@ -1,7 +1,7 @@
 -- `joint::put_count` meets its contract.
 use native.Mathlib.Omega.{arith}
 use Rattle.compose.proofs.PageLaws.{nothing, as-words}
-use Rattle.compose.proofs.RuleWords.{content-there, has-count, no-count}
+use Rattle.model.proofs.RuleWords.{content-there, has-count, no-count}
 use Rattle.compose.proofs.JointLaws.{count-both, count-first, count-second, count-neither}
 use borrow.Author.Needs.{needs}
 use Rattle.compose.proofs.joint.put_count.Statement.{statement}

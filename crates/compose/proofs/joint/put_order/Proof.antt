@@ -1,7 +1,7 @@
 -- `joint::put_order` meets its contract.
 use native.Mathlib.Omega.{arith}
 use Rattle.compose.proofs.PageLaws.{nothing, as-words}
-use Rattle.compose.proofs.RuleWords.{content-there, has-order, no-order}
+use Rattle.model.proofs.RuleWords.{content-there, has-order, no-order}
 use Rattle.compose.proofs.JointLaws.{order-both, order-first, order-second, order-neither, few-positions}
 use borrow.Author.Needs.{needs}
 use Rattle.compose.proofs.joint.put_order.Statement.{statement}

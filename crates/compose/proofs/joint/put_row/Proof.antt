@@ -6,11 +6,14 @@ use native.Mathlib.Omega.{arith}
 use lib.ListN.{length, drop}
 use Rattle.model.specs.Sheet.{Rule, rule-words}
 use Rattle.model.specs.Compose.{pair-rule}
-use Rattle.model.proofs.Pairs.{of-pairs}
+use Rattle.model.specs.Compose.{of-pairs}
 use Rattle.model.proofs.ListLaws.{each-append}
-use Rattle.model.proofs.Chains.{nth, chain-first, chain-next, chain-later}
+use Rattle.model.specs.Index.{nth}
+use Rattle.model.proofs.Chains.{chain-first, chain-next, chain-later}
 use Rattle.compose.specs.Sides.{sizes-of}
-use Rattle.compose.specs.Rules.{RuleAt, Starts, key, Chained}
+use Rattle.model.specs.Spans.{RuleAt}
+use Rattle.compose.specs.Rules.{Starts, Chained}
+use Rattle.model.specs.Index.{key}
 use Rattle.compose.proofs.PageLaws.{Left, begun, more, done, kept}
 use Rattle.compose.proofs.StartLaws.{start-here, rule-among, words-none}
 use Rattle.compose.proofs.KeyLaws.{keys-apart}

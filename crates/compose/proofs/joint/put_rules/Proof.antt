@@ -5,7 +5,7 @@ use Prim.Native.Nat.{_-_}
 use lib.ListN.{length, drop}
 use Rattle.model.specs.Sheet.{Rule, rule-words}
 use Rattle.model.specs.Compose.{pair-rule, joint-rules}
-use Rattle.model.proofs.Pairs.{of-pairs}
+use Rattle.model.specs.Compose.{of-pairs}
 use Rattle.compose.specs.Sides.{sizes-of}
 use Rattle.compose.specs.Rules.{Starts, Chained}
 use Rattle.compose.proofs.PageLaws.{Left, begun, more, done, full, kept}

@@ -1,6 +1,6 @@
 -- `limits::extent_at` meets its contract.
 use native.Mathlib.Omega.{arith}
-use Rattle.compose.proofs.RuleWords.{content-there}
+use Rattle.model.proofs.RuleWords.{content-there}
 use Rattle.compose.proofs.LimitLaws.{extent-there, extent-ordered, extent-unordered}
 use borrow.Author.Needs.{needs}
 use Rattle.compose.proofs.limits.extent_at.Statement.{statement}

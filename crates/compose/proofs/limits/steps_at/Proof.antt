@@ -1,6 +1,6 @@
 -- `limits::steps_at` meets its contract.
 use native.Mathlib.Omega.{arith}
-use Rattle.compose.proofs.RuleWords.{content-there}
+use Rattle.model.proofs.RuleWords.{content-there}
 use Rattle.compose.proofs.LimitLaws.{steps-there, steps-none}
 use borrow.Author.Needs.{needs}
 use Rattle.compose.proofs.limits.steps_at.Statement.{statement}

@@ -1,6 +1,6 @@
 -- `limits::tally_pair` meets its contract.
 use mathlib.Core.Path.{subst}
-use Rattle.compose.specs.Rules.{RuleAt}
+use Rattle.model.specs.Spans.{RuleAt}
 use Rattle.compose.proofs.PairingLaws.{known}
 use Rattle.compose.proofs.LimitLaws.{tally-apart, tally-texts, tally-tags, tally-contents}
 use borrow.Author.Needs.{needs}

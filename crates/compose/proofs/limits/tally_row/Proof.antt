@@ -6,9 +6,12 @@ use native.Mathlib.Omega.{arith}
 use lib.ListN.{length, drop}
 use Rattle.model.specs.Sheet.{Rule}
 use Rattle.model.specs.Compose.{pair-rule}
-use Rattle.model.proofs.Chains.{nth, chain-first, chain-next, chain-later}
+use Rattle.model.specs.Index.{nth}
+use Rattle.model.proofs.Chains.{chain-first, chain-next, chain-later}
 use Rattle.compose.specs.Sides.{sizes-of}
-use Rattle.compose.specs.Rules.{RuleAt, Starts, key, Chained}
+use Rattle.model.specs.Spans.{RuleAt}
+use Rattle.compose.specs.Rules.{Starts, Chained}
+use Rattle.model.specs.Index.{key}
 use Rattle.compose.proofs.StartLaws.{start-here, rules-none}
 use Rattle.compose.proofs.KeyLaws.{keys-apart}
 use Rattle.compose.proofs.LimitLaws.{TallyLeft, tally-begun, tally-more, tally-done, pair-room}

@@ -1,7 +1,8 @@
 -- `order::order_head` meets its contract.
 use mathlib.Core.Path.{refl}
 use native.Mathlib.Omega.{arith}
-use Rattle.compose.proofs.OrderWords.{order-room, head-of}
+use Rattle.model.proofs.RuleWords.{order-room}
+use Rattle.compose.proofs.OrderWords.{head-of}
 use Rattle.compose.proofs.order.order_head.Statement.{statement}
 use Rattle.compose.proofs.order.order_head.Tie as tie
 

@@ -5,7 +5,7 @@ use Prim.Native.Nat.{ℕ, _-_}
 use lib.Seq.{slice}
 use Rattle.compose.specs.Page.{repeated}
 use Rattle.compose.proofs.PageLaws.{Left, begun, more, done, kept, slice-next, slice-none}
-use Rattle.compose.proofs.PartLaws.{each-next, each-none}
+use Rattle.model.proofs.PartLaws.{each-next, each-none}
 use borrow.Author.Needs.{needs}
 use Rattle.compose.proofs.page.repeat_each.Statement.{statement}
 use Rattle.compose.proofs.page.repeat_each.Tie as tie

@@ -1,6 +1,6 @@
 -- `rule::count_at` meets its contract.
 use native.Mathlib.Omega.{arith}
-use Rattle.compose.proofs.RuleWords.{content-there, order-end, order-absent}
+use Rattle.model.proofs.RuleWords.{content-there, order-end, order-absent}
 use borrow.Author.Needs.{needs}
 use Rattle.compose.proofs.rule.count_at.Statement.{statement}
 use Rattle.compose.proofs.rule.count_at.Tie as tie

@@ -5,8 +5,8 @@ use Prim.Native.Nat.{ℕ, _-_}
 use native.Mathlib.Omega.{arith}
 use lib.ListN.{length, length-set}
 use Rattle.model.specs.Sheet.{Rule}
-use Rattle.compose.specs.Rules.{RulesAt}
-use Rattle.compose.proofs.RuleWords.{rule-there}
+use Rattle.model.specs.Spans.{RulesAt}
+use Rattle.model.proofs.RuleWords.{rule-there}
 use Rattle.compose.proofs.StartLaws.{Found, found-none, found-here, found-next, found-all}
 use borrow.Author.Needs.{needs}
 use Rattle.compose.proofs.rule.find_rules.Statement.{statement}

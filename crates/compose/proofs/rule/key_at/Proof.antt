@@ -1,7 +1,7 @@
 -- `rule::key_at` meets its contract.
 use native.Mathlib.Omega.{arith}
-use Rattle.compose.proofs.RuleWords.{rule-there}
-use Rattle.compose.proofs.KeyLaws.{key-of-text, key-of-tag, key-of-content}
+use Rattle.model.proofs.RuleWords.{rule-there}
+use Rattle.model.proofs.RuleWords.{key-of-text, key-of-tag, key-of-content}
 use Rattle.compose.proofs.rule.key_at.Statement.{statement}
 use Rattle.compose.proofs.rule.key_at.Tie as tie
 

@@ -1,6 +1,6 @@
 -- `rule::pair_up` meets its contract.
 use native.Mathlib.Omega.{arith}
-use Rattle.compose.proofs.RuleWords.{rule-there}
+use Rattle.model.proofs.RuleWords.{rule-there}
 use Rattle.compose.proofs.PairingLaws.{texts, texts-apart, tags, tags-apart, contents-apart, contents}
 use Rattle.compose.proofs.rule.pair_up.Statement.{statement}
 use Rattle.compose.proofs.rule.pair_up.Tie as tie

@@ -6,9 +6,9 @@ use Prim.Native.Nat.{ℕ}
 use native.Mathlib.Omega.{arith}
 use lib.ListN.{length}
 use Rattle.model.specs.Sheet.{Step, Rule, rule-words}
-use Rattle.compose.specs.Rules.{RuleAt}
+use Rattle.model.specs.Spans.{RuleAt}
 use Rattle.compose.proofs.CountWords.{CountFields, count-fields}
-use Rattle.compose.proofs.RuleWords.{rule-there, IsContent, as-content, text-end, tag-end, has-count, no-count, after-count, counted-end, uncounted-end}
+use Rattle.model.proofs.RuleWords.{rule-there, IsContent, as-content, text-end, tag-end, has-count, no-count, after-count, counted-end, uncounted-end}
 use borrow.Author.Needs.{needs}
 use Rattle.compose.proofs.rule.target_at.Statement.{statement}
 use Rattle.compose.proofs.rule.target_at.Tie as tie

@@ -11,7 +11,8 @@ use Rattle.judge.proofs.KindLaws.{tags-of, along-length}
 use Rattle.judge.specs.Index.{rules-in, rules-of, tag}
 use Rattle.bits.specs.Stands.{Stands}
 use Rattle.model.specs.Run.{at-tag}
-use Rattle.model.proofs.Chains.{nth, chain-first, chain-next, chain-later}
+use Rattle.model.specs.Index.{nth}
+use Rattle.model.proofs.Chains.{chain-first, chain-next, chain-later}
 use Rattle.judge.proofs.targets.tag_targets.Statement.{statement}
 use Rattle.judge.proofs.targets.tag_targets.Tie as tie
 

@@ -1,17 +1,30 @@
--- The words of rules.
+-- The words of rules that stand in a list: where the parts of each stand, and what its first two words tell.
 use mathlib.Core.Path.{_≡_, refl, sym, ap, _∙_, subst}
 use mathlib.Core.Logic.{_≢_}
 use mathlib.Core.Bool.{Bool, true, false}
-use mathlib.Core.List.{List, [], _∷_, _++_, flatMap}
+use mathlib.Core.List.{List, [], _∷_, _++_, map, flatMap}
 use mathlib.Core.Option.{Option, none, some}
-use Prim.Native.Nat.{ℕ, _+_, _≤_, _<_}
+use Prim.Native.Nat.{ℕ, _+_, _/_, _%_, _≤_, _<_}
 use native.Mathlib.Omega.{arith}
 use lib.ListN.{length, getD, length-append, length-map}
-use Rattle.model.specs.Sheet.{Order, Step, Rule, one, two, three, set-words, arc-word, order-words, step-words, count-words, rule-words, OrderInRange, CountInRange, IfAny}
-use Rattle.model.proofs.Spans.{WordsAt, word-there, word-here, word-next, span-left, span-right}
-use Rattle.compose.specs.Parts.{OrderAt, CountAt}
-use Rattle.compose.specs.Rules.{RuleAt, Content, content, there-is, map-of, ordered, counted, order-part, count-part}
-use Rattle.compose.proofs.OrderWords.{words-end, order-room}
+use Rattle.model.specs.Lists.{has}
+use Rattle.model.specs.Sheet.{Order, Step, Rule, one, two, three, W, mask, set-words, arc-word, order-words, step-words, count-words, rule-words}
+use Rattle.model.specs.Sheet.{OrderInRange, CountInRange, IfAny}
+use Rattle.model.specs.Spans.{WordsAt, OrderAt, CountAt, RuleAt, Content, content, there-is, map-of, ordered, counted, order-part, count-part}
+use Rattle.model.specs.Index.{key}
+use Rattle.model.proofs.Spans.{word-there, word-here, word-next, span-left, span-right}
+use Rattle.model.proofs.PartLaws.{words-end}
+
+-- ---- order parts
+
+-- an order part is as long as its arcs and four words more
+pub order-room : {p a : ℕ} {s : List ℕ} {o : Order} → OrderAt p s a o → (a + 4 + length (o .arcs) ≤ length s) × (getD s (a + 3) 0 ≡ length (o .arcs))
+unfolding order-words set-words
+order-room {o = o} h =
+    let n = mask (o .positions) (has (o .accepting)) in
+    let head : List ℕ = o .positions ∷ n % W ∷ n / W ∷ [] in
+    let count = span-right head (length (o .arcs) ∷ map arc-word (o .arcs)) (h .there) in
+    (omega (arith, word-there count, words-end (h .there) (omega (arith, word-there (h .there))), h .there .ends, length-map (o .arcs) arc-word), word-here count)
 
 -- ---- content rules
 
@@ -190,3 +203,33 @@ module _ {p a : ℕ} {s : List ℕ} where
   pub tag-end : (x : Rule) → RuleAt p s a x → getD s a 0 ≡ 38 → a + 3 + 1 ≡ a + length (rule-words p x)
   unfolding rule-words
   tag-end x h e = let (g, c, q, i) = as-tag x h e in omega (arith, ap (λ (x : Rule). length (rule-words p x)) i)
+
+-- ---- keys
+
+-- the first two words of a rule of a text, and of a tag
+pub text-key : {p a k q : ℕ} {s : List ℕ} → RuleAt p s a (one k q) → (getD s a 0 ≡ 33) × (getD s (a + 1) 0 ≡ k)
+unfolding rule-words
+text-key h = (word-here (h .there), word-here (word-next (h .there)))
+
+pub tag-key : {p a g c q : ℕ} {s : List ℕ} → RuleAt p s a (two g c q) → (getD s a 0 ≡ 38) × (getD s (a + 1) 0 ≡ g)
+unfolding rule-words
+tag-key h = (word-here (h .there), word-here (word-next (h .there)))
+
+module _ {p a : ℕ} {s : List ℕ} where
+  pub key-of-text : (x : Rule) → RuleAt p s a x → getD s a 0 ≡ 33 → (getD s (a + 1) 0 ≡ key x) × (getD s (a + 1) 0 < 67)
+  unfolding key
+  key-of-text x h e =
+      let (k, q, is) = as-text x h e in
+      let at = subst (RuleAt p s a) is h in
+      (text-key at .1 ∙ sym (ap key is), omega (arith, text-key at .1, at .ranges .1))
+
+  pub key-of-tag : (x : Rule) → RuleAt p s a x → getD s a 0 ≡ 38 → (2 + getD s (a + 1) 0 ≡ key x) × (2 + getD s (a + 1) 0 < 67)
+  unfolding key
+  key-of-tag x h e =
+      let (g, c, q, is) = as-tag x h e in
+      let at = subst (RuleAt p s a) is h in
+      (ap (λ (g : ℕ). 2 + g) (tag-key at .1) ∙ sym (ap key is), omega (arith, tag-key at .1, at .ranges .1))
+
+  pub key-of-content : (x : Rule) → RuleAt p s a x → getD s a 0 ≢ 33 → getD s a 0 ≢ 38 → 0 ≡ key x
+  unfolding key
+  key-of-content x h e f = sym (ap key (as-content x h e f .is))
