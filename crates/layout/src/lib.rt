@@ -80,3 +80,12 @@ pub const MOST_STEPS: u32 = 32;
 
 // the two's complement word of −1
 pub const MINUS_ONE: u32 = 0xFFFF_FFFF;
+
+// ---- the index of a sheet: for each key of a rule its first rule, then an entry for each rule, and one after the last
+
+pub const KEYS: usize = 67;
+
+// where the entries begin
+pub const ENTRIES: usize = KEYS;
+
+pub const INDEX_WORDS: usize = 1092;
