@@ -13,7 +13,7 @@ use lib.Seq.{drop-cons, take-length}
 use Rattle.model.specs.Lists.{from, numbers}
 use Rattle.model.specs.Sheet.{Rule, one, rule-words}
 use Rattle.model.specs.Spans.{WordsAt, RuleAt}
-use Rattle.model.specs.Index.{sheet-in, rules-in, Passes, nth, key, first-with, entries, index-heads, index-words, Indexed}
+use Rattle.model.specs.Index.{sheet-in, rules-in, Passes, nth, begin, key, first-with, entries, index-heads, index-words, Indexed}
 use Rattle.model.proofs.Tests.{Told, yea, nay, told, same, eqb-no}
 use Rattle.model.proofs.ListLaws.{length-from}
 use Rattle.model.proofs.Chains.{First, past, rules-next}
@@ -23,10 +23,6 @@ use Rattle.model.proofs.RuleWords.{rule-there}
 use Rattle.model.proofs.PassedLaws.{few-words, rules-stand}
 
 -- ---- entries
-
--- where rule k of R begins, if the first begins at `at`
-abbrev pub begin : (p at : ℕ) → List Rule → ℕ → ℕ
-begin p at R k = at + length (flatMap (rule-words p) (take k R))
 
 pub begin-next : (p at : ℕ) (R : List Rule) (k : ℕ) → k < length R → begin p at R (suc k) ≡ begin p at R k + length (rule-words p (nth R k))
 unfolding flatMap
@@ -118,9 +114,13 @@ module _ {s : List ℕ} (ok : Passes s) where
   begins-low k l = omega (arith, begins-within k l, few-words ok .1)
 
 -- the parts of an index's words
-heads-long : (R : List Rule) → length (index-heads R) ≡ 67
+pub heads-long : (R : List Rule) → length (index-heads R) ≡ 67
 unfolding index-heads
 heads-long R = length-map (numbers 67) (λ k. first-with k 0 R) ∙ length-from 67 0
+
+pub head-is : (R : List Rule) (k : ℕ) → k < 67 → getD (index-heads R) k 0 ≡ first-with k 0 R
+unfolding index-heads
+head-is R k l = rw (zero-add k) at (numbers-nth (λ k. first-with k 0 R) 0 67 0 k l)
 
 module _ {s index : List ℕ} (h : Indexed s index) where
   heads-there : WordsAt index 0 67 (index-heads (rules-in s))
@@ -170,10 +170,9 @@ module _ {s index : List ℕ} (h : Indexed s index) where
   -- ---- along a chain: what is given by rules, where a rule with another key than k gives nothing
 
   head-first : (k : ℕ) → k < 67 → First key (rules-in s) k 0 (getD index k 0)
-  unfolding index-heads
   head-first k l =
       let R = rules-in s in
-      let e : getD index k 0 ≡ first-with k 0 R = rw (zero-add k) at (word-is heads-there k (omega (arith, heads-long R)) ∙ numbers-nth (λ k. first-with k 0 R) 0 67 0 k l) in
+      let e : getD index k 0 ≡ first-with k 0 R = rw (zero-add k) at (word-is heads-there k (omega (arith, heads-long R)) ∙ head-is R k l) in
       rw e (first-is R k 0 R (omega arith) refl)
 
   next-first : (j : ℕ) → j < length (rules-in s) → First key (rules-in s) (key (nth (rules-in s) j)) (suc j) (getD index (67 + j) 0 / 2 ^ 16)

@@ -1,6 +1,6 @@
 -- The words of a sheet that passes: what stands before its rules, and where these stand.
 use mathlib.Core.Path.{_≡_, sym, ap, _∙_, subst}
-use mathlib.Core.List.{List, flatMap}
+use mathlib.Core.List.{List, _∷_, flatMap}
 use Prim.Native.Nat.{ℕ, _+_, _*_, _/_, _%_, _≤_}
 use native.Mathlib.Omega.{arith}
 use lib.ListN.{length, getD}
@@ -9,7 +9,7 @@ use Rattle.model.specs.Answers.{Checked, passes, refuses}
 use Rattle.model.specs.Sheet.{Sheet, Rule, one, two, three, W, mask, set-words, rule-words, sheet-words, RuleInRange, InRange, sheet-of}
 use Rattle.model.specs.Spans.{WordsAt, RulesAt}
 use Rattle.model.specs.Index.{passed, sheet-in, rules-in, Passes}
-use Rattle.model.proofs.Spans.{whole, word-next}
+use Rattle.model.proofs.Spans.{whole, word-next, span-left}
 use Rattle.model.proofs.SheetCode.{sheet-passes}
 use Rattle.model.proofs.PartLaws.{word-is}
 
@@ -32,9 +32,19 @@ module _ {s : List ℕ} (ok : Passes s) where
   unfolding sheet-words set-words
   few-words = (omega (arith, ap length coded), omega (arith, ap length coded, in-range .few-words))
 
+  pub edition-word : getD s 0 0 ≡ 1
+  unfolding sheet-words set-words
+  edition-word = word-is header 0 (omega arith)
+
   pub states-word : getD s 1 0 ≡ sheet-in s .states
   unfolding sheet-words set-words
   states-word = word-is header 1 (omega arith)
+
+  pub final-there : WordsAt s 2 4 (set-words (sheet-in s .states) (sheet-in s .final))
+  unfolding sheet-words set-words
+  final-there =
+      let later = sheet-in s .tags ∷ length (rules-in s) ∷ flatMap (rule-words (sheet-in s .states)) (rules-in s) in
+      span-left (set-words (sheet-in s .states) (sheet-in s .final)) later (word-next (word-next header))
 
   -- the final states, as the number of their set
   pub final-words : getD s 2 0 + getD s 3 0 * W ≡ mask (sheet-in s .states) (has (sheet-in s .final))
@@ -59,10 +69,13 @@ module _ {s : List ℕ} (ok : Passes s) where
   within-64 (two a c q) (l, m, h, i) = (l, omega (arith, in-range .few-tags), h, i)
   within-64 (three o c q) h = h
 
-  pub rules-stand : RulesAt (sheet-in s .states) s 6 (rules-in s)
+  pub rules-there : WordsAt s 6 (length s) (flatMap (rule-words (sheet-in s .states)) (rules-in s))
   unfolding sheet-words set-words
+  rules-there = word-next (word-next (word-next (word-next (word-next (word-next header)))))
+
+  pub rules-stand : RulesAt (sheet-in s .states) s 6 (rules-in s)
   rules-stand = record {
     end = length s;
-    there = word-next (word-next (word-next (word-next (word-next (word-next header)))));
+    there = rules-there;
     ranges = λ r m. within-64 r (in-range .rules r m);
   }

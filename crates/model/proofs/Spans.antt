@@ -35,7 +35,7 @@ module _ {s : List ℕ} {a c : ℕ} (u v : List ℕ) (x : WordsAt s a c (u ++ v)
   span-right = record { stands = later; ends = x .ends ∙ ap (λ (n : ℕ). a + n) (length-append u v) ∙ sym (add-assoc a (length u) (length v)) }
 
 -- one word
-span-word : {s : List ℕ} {a : ℕ} → a < length s → WordsAt s a (a + 1) (getD s a 0 ∷ [])
+pub span-word : {s : List ℕ} {a : ℕ} → a < length s → WordsAt s a (a + 1) (getD s a 0 ∷ [])
 span-word {s} {a} h = record { stands = drop-cons s a 0 h ∙ ap (λ (n : ℕ). getD s a 0 ∷ drop n s) (sym (add-one a)); ends = refl }
 
 module _ {s : List ℕ} {a b x : ℕ} {ws : List ℕ} (p : WordsAt s a b (x ∷ ws)) where

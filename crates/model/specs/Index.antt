@@ -1,10 +1,10 @@
 -- The index of a sheet that passes: where each rule begins and where its target stands, and which rules match alike.
 use mathlib.Core.Path.{_≡_}
 use mathlib.Core.Bool.{cond}
-use mathlib.Core.List.{List, [], _∷_, _++_, map}
+use mathlib.Core.List.{List, [], _∷_, _++_, map, flatMap}
 use Prim.Native.Nat.{ℕ, suc, _+_, _*_, _^_}
 use lib.Dec.{eqb}
-use lib.ListN.{length, getD}
+use lib.ListN.{length, getD, take}
 use Rattle.model.specs.Lists.{numbers}
 use Rattle.model.specs.Answers.{Checked, passes, refuses, _>>=_, buffer-after}
 use Rattle.model.specs.Sheet.{Rule, one, two, three, rule-words, Sheet, sheet-of}
@@ -28,6 +28,10 @@ pub record Passes (s : List ℕ) : Type 0 where
 -- rule j
 abbrev pub nth : List Rule → ℕ → Rule
 nth R j = getD R j (one 0 0)
+
+-- where rule j begins, if the first begins at `at`
+abbrev pub begin : (p at : ℕ) → List Rule → (j : ℕ) → ℕ
+begin p at R j = at + length (flatMap (rule-words p) (take j R))
 
 -- ---- rules that match alike
 

@@ -1,12 +1,17 @@
 -- Keys and lengths of steps, by the code's tests of their words.
-use mathlib.Core.Path.{_≡_}
+use mathlib.Core.Path.{_≡_, refl}
 use mathlib.Core.Logic.{_≢_}
+use mathlib.Core.Bool.{Bool, true, false, cond}
 use mathlib.Core.List.{List}
 use Prim.Native.Nat.{ℕ, _+_, _*_, _≤_, _<_, min}
 use native.Mathlib.Omega.{arith}
+use lib.Dec.{eqb}
 use lib.ListN.{length, getD}
 use borrow.Author.Tests as tests
-use Rattle.model.specs.Sheet.{W, members}
+use Rattle.model.specs.Sheet.{Rule, one, two, three, W, members}
+use Rattle.model.specs.Spans.{RuleAt, there-is, map-of}
+use Rattle.model.specs.Index.{key}
+use Rattle.model.proofs.RuleWords.{content-map, text-key, tag-key}
 use Rattle.parts.specs.Lengths.{sum-length, step-length, key-by}
 
 module _ {map r : ℕ} (second : ℕ) where
@@ -41,3 +46,29 @@ module _ (s : List ℕ) (a : ℕ) {kind r : ℕ} (e : kind ≡ getD s a 0) where
 pub sum-long : (low high : ℕ) {n set r : ℕ} → set ≡ low + high * W → n ≡ length (members 64 set) → r ≡ n → 2 + r ≡ sum-length low high
 unfolding sum-length
 sum-long low high e f g = rw (g, f, e)
+
+-- the first two words of a rule tell its key
+pub key-of-rule : {p a : ℕ} {s : List ℕ} (x : Rule) → RuleAt p s a x → key-by (getD s a 0) (getD s (a + 1) 0) ≡ key x
+unfolding key-by key
+key-of-rule (one k q) h =
+    let (map, second) = text-key h in
+    rw (map, second) (omega (arith, h .ranges .1))
+key-of-rule (two g c q) h =
+    let (map, second) = tag-key h in
+    rw (map, second) (omega (arith, h .ranges .1))
+key-of-rule {a = a} {s = s} (three o c q) h = rw (content-map h) (go (getD s (a + 1) 0) (there-is o) (there-is c))
+  where
+    go : (second : ℕ) (ordered counted : Bool) → cond (eqb (map-of ordered counted) 33) (min second 2) (cond (eqb (map-of ordered counted) 38) (2 + min second 64) 0) ≡ 0
+    go second true true = refl
+    go second true false = refl
+    go second false true = refl
+    go second false false = refl
+
+pub key-few : (map second : ℕ) → key-by map second < 67
+unfolding key-by
+key-few map second = go (eqb map 33) (eqb map 38)
+  where
+    go : (text tag : Bool) → cond text (min second 2) (cond tag (2 + min second 64) 0) < 67
+    go true tag = omega arith
+    go false true = omega arith
+    go false false = omega arith

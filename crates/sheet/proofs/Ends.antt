@@ -7,14 +7,21 @@ use lib.Dec.{leb}
 use lib.ListN.{length, take}
 use lib.Seq.{take-all, take-length}
 use borrow.Author.Tests as tests
-use Rattle.sheet.specs.declared.walk.Walk.{Walk}
-use Rattle.sheet.specs.declared.walk.Walk.the-variants.{At, Bad}
-use Rattle.model.specs.Answers.{count, refusal, answer-of}
+use Rattle.sheet_walk.specs.declared.Walk.{Walk}
+use Rattle.sheet_walk.specs.declared.Walk.the-variants.{At, Bad}
+use Rattle.model.specs.declared.Answer.{Answer}
+use Rattle.model.specs.declared.Answer.the-variants.{Count, Error}
+use Rattle.model.specs.declared.Refusal.{Refusal}
+use Rattle.model.specs.Answers.{count, refusal, said, passes, _>>=_, answer-of, buffer-after}
 use Rattle.model.specs.Sheet.{Sheet, got, sheet, ended, sheet-of}
 use Rattle.model.specs.Calls.{sheet-said}
 use Rattle.model.proofs.Tests.{Told, yea, nay, told}
-use Rattle.sheet.specs.Walks.{left-at, after}
-use Rattle.sheet.proofs.WalkLaws.{left-bad, left-got}
+use Rattle.sheet_walk.specs.Walks.{left-at, after}
+use Rattle.model.specs.Index.{sheet-in, Passes, index-words, index-after}
+use Rattle.model.proofs.Answered.{sheet-counted, sheet-refused}
+use Rattle.model.proofs.PassedLaws.{passes-in, few-words}
+use Rattle.sheet_walk.proofs.WalkLaws.{left-bad, left-got}
+use Rattle.sheet.specs.Places.{Places}
 
 take-min : (n : ℕ) (s : List ℕ) → take (min n (length s)) s ≡ take n s
 take-min n s = go (told (leb (length s) n))
@@ -49,3 +56,25 @@ module _ (s : List ℕ) {e : ℕ} {w : Walk} (ee : e ≡ min 16384 (length s)) (
     pub ends-early : (n ≡ length s → ⊥) → refusal 9 n ≡ sheet-said s
     unfolding sheet-said answer-of sheet-of ended
     ends-early h = rw (end .1, tests.ne-eqb n (length s) h)
+
+-- a sheet that passes is no longer than the part that is checked
+pub part-whole : {s : List ℕ} {e : ℕ} {places : List ℕ} → e ≡ min 16384 (length s) → Places (take e s) places → Places s places
+part-whole {s} {e} {places} ee h = record {
+  noted = λ ok.
+      let all : take e s ≡ s = ap (λ (x : ℕ). take x s) ee ∙ take-min 16384 s ∙ take-all 16384 s (few-words ok .1) in
+      (rw all at h) .noted ok;
+}
+
+-- ---- the index that a check leaves
+
+module _ (s : List ℕ) {r : Answer} (e : said r ≡ sheet-said s) where
+  pub passes-counted : {n : ℕ} → r ≡ Count n → Passes s
+  passes-counted f = let (_, (t, h)) = sheet-counted s e f in passes-in h .0
+
+  pub index-refused : (index : List ℕ) {x : Refusal} → r ≡ Error x → index ≡ index-after index s
+  unfolding index-after _>>=_ buffer-after
+  index-refused index f = let (_, h, _) = sheet-refused s e f in rw h
+
+pub index-left : {s : List ℕ} (index : List ℕ) {left : List ℕ} → Passes s → left ≡ buffer-after index (passes (index-words (sheet-in s))) → left ≡ index-after index s
+unfolding index-after _>>=_
+index-left index ok e = rw (ok .as-sheet) e

@@ -1,7 +1,6 @@
-mod WalkLaws
-mod WordTests
-mod Marks
 pub mod Over
+pub mod PlaceLaws
+mod ChainLaws
 mod Ends
 mod Files
 mod FileAnswers

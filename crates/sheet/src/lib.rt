@@ -4,16 +4,18 @@ ghost use Prim.Native.Nat.{min};
 ghost use Rattle.model.specs.Answers.{said};
 ghost use Rattle.model.specs.Calls.{sheet-said, from-file-said, from-file-sheet};
 ghost use Rattle.model.specs.Sheet.{sheet};
-ghost use Rattle.sheet.specs.Walks.{after};
+ghost use Rattle.model.specs.Index.{index-after};
+ghost use Rattle.sheet_walk.specs.Walks.{after};
+ghost use Rattle.sheet.specs.Places.{Places};
 
-mod count;
+mod chains;
 mod file;
-mod order;
 mod rule;
-mod walk;
 
+use chains::chain;
 use file::put_words;
 use layout::EDITION;
+use layout::INDEX_WORDS;
 use layout::MOST_RULES;
 use layout::MOST_STATES;
 use layout::MOST_TAGS;
@@ -21,16 +23,17 @@ use layout::MOST_WORDS;
 use model::Answer;
 use model::Refusal;
 use rule::rules;
-use walk::Walk;
-use walk::between;
-use walk::set_below;
-use walk::word_at;
+use sheet_walk::Walk;
+use sheet_walk::between;
+use sheet_walk::set_below;
+use sheet_walk::word_at;
 
 const WORD_BYTES: usize = 4;
 
-// Past a whole sheet, from its first word on.
-fn whole(words: &[u32]) -> Walk
-    ensures { λ r. ⌜ r ≡ after sheet (now (words .entry)) (Walk.At 0) ⌝ }
+// Past a whole sheet, from its first word on; where each rule begins goes to its entry of `places`, as far as that goes.
+fn whole(words: &[u32], places: &mut [u32]) -> Walk
+    ensures walk { λ r. ⌜ r ≡ after sheet (now (words .entry)) (Walk.At 0) ⌝ }
+    ensures places { λ _. ⌜ Places (now (words .entry)) (now (places .exit)) ⌝ }
 {
     let edition = between(words, Walk::At(0), EDITION, EDITION);
     let p = word_at(words, edition);
@@ -38,7 +41,7 @@ fn whole(words: &[u32]) -> Walk
     let g = word_at(words, finals);
     let tags = between(words, finals, 1, MOST_TAGS);
     let n = word_at(words, tags);
-    rules(words, between(words, tags, 0, MOST_RULES), n, p, g)
+    rules(words, between(words, tags, 0, MOST_RULES), n, p, g, places)
 }
 
 // A number of words, cut off at the most that a sheet may have.
@@ -48,19 +51,44 @@ fn within(n: usize) -> usize
     if n < MOST_WORDS { n } else { MOST_WORDS }
 }
 
-// The number of a sheet's words, or 9 with the place of the first bad one.
-pub fn check(sheet: &[u32]) -> Answer
-    ensures { λ r. ⌜ said r ≡ sheet-said (now (sheet .entry)) ⌝ }
+// The number of a sheet's words, or 9 with the place of the first bad one; where each rule begins goes to `places`.
+fn check_noting(sheet: &[u32], places: &mut [u32]) -> Answer
+    ensures answer { λ r. ⌜ said r ≡ sheet-said (now (sheet .entry)) ⌝ }
+    ensures places { λ _. ⌜ Places (now (sheet .entry)) (now (places .exit)) ⌝ }
 {
     let n = sheet.len();
     let limit = within(n);
-    match whole(&sheet[..limit]) {
+    match whole(&sheet[..limit], places) {
         Walk::Bad(i) => Answer::Error(Refusal::Sheet(i)),
         Walk::At(i) => {
             if i == n {
                 return Answer::Count(n);
             }
             Answer::Error(Refusal::Sheet(i))
+        }
+    }
+}
+
+// The number of a sheet's words, or 9 with the place of the first bad one.
+pub fn check(sheet: &[u32]) -> Answer
+    ensures { λ r. ⌜ said r ≡ sheet-said (now (sheet .entry)) ⌝ }
+{
+    let mut none = [0u32; 0];
+    check_noting(sheet, &mut none)
+}
+
+// The check of a sheet, which leaves the sheet's index: for each key its first rule, then for each rule where it begins and the next
+// rule with its key, and at the end where the last rule ends. A refusal leaves the array as it was.
+pub fn index(sheet: &[u32], index: &mut [u32; INDEX_WORDS]) -> Answer
+    ensures answer { λ r. ⌜ said r ≡ sheet-said (now (sheet .entry)) ⌝ }
+    ensures index { λ r. ⌜ now (index .exit) ≡ index-after (now (index .entry)) (now (sheet .entry)) ⌝ }
+{
+    let mut places = [0u32; MOST_RULES as usize];
+    match check_noting(sheet, &mut places) {
+        Answer::Error(refusal) => Answer::Error(refusal),
+        Answer::Count(n) => {
+            chain(sheet, &places, index);
+            Answer::Count(n)
         }
     }
 }

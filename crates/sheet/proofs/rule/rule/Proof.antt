@@ -5,7 +5,7 @@ use borrow.Author.Needs.{needs}
 use borrow.Author.Tests.{ne-eqb}
 use Rattle.model.specs.Lists.{every}
 use Rattle.model.specs.Sheet.{Order, target, text-rule, tag-rule, order-rule, count-rule, order-count-rule, rule}
-use Rattle.sheet.proofs.WalkLaws.{then-word, then-part, then-last, keyed}
+use Rattle.sheet_walk.proofs.WalkLaws.{then-word, then-part, then-last, keyed}
 use Rattle.sheet.proofs.rule.rule.Statement.{statement}
 use Rattle.sheet.proofs.rule.rule.Tie as tie
 

@@ -1,21 +1,17 @@
--- `rule::rules` meets its contract.
-use mathlib.Core.Path.{_≡_}
+-- `sheet::rule::rules` meets its contract.
 use Prim.Native.Nat.{_-_}
-use native.Mathlib.Nat.{sub-zero}
 use native.Mathlib.Omega.{arith}
 use borrow.Author.Needs.{needs}
-use Rattle.model.specs.Lists.{from, numbers}
-use Rattle.model.specs.Sheet.{rule, all}
-use Rattle.sheet.specs.Walks.{after}
-use Rattle.sheet.proofs.WalkLaws.{loop-stopped, loop-more, loop-done}
+use Rattle.sheet_walk.proofs.WalkLaws.{loop-stopped, loop-done}
+use Rattle.sheet.proofs.PlaceLaws.{Noting, noting-none, noting-more, noting-stopped, noting-all}
 use Rattle.sheet.proofs.rule.rules.Statement.{statement}
 use Rattle.sheet.proofs.rule.rules.Tie as tie
 
 abbrev Inv-loop : tie.InvT-loop
-Inv-loop words n p g walk₀ i₀ walk i = after (all (λ j. rule p g) (from (n - i) i)) words walk ≡ after (all (λ j. rule p g) (numbers n)) words walk₀
+Inv-loop words n p g places₀ walk₀ i₀ places walk i = Noting p g n words walk₀ walk places₀ places i
 
 abbrev μ-loop : tie.MeasureT-loop
-μ-loop words n p g walk₀ i₀ walk i = n - i
+μ-loop words n p g places₀ walk₀ i₀ places walk i = n - i
 
 pub rules-spec : {M : Type 1} → statement M
 rules-spec =
@@ -23,12 +19,21 @@ rules-spec =
     (tie.spec
     Inv-loop
     μ-loop
-    (λ c. rw sub-zero)
+    (λ c. noting-none)
     (λ c. search needs)
     (λ c. search needs)
-    (λ c. loop-stopped _ _ _ _ _ _ (c .before .before .before .loop .inv) (c .enum-told2 .given .1))
+    (λ c. c .before .before .before .loop .inv .long)
+    (λ c. (
+      loop-stopped _ _ _ _ _ _ (c .before .before .before .loop .inv .walks) (c .enum-told .given .1),
+      noting-stopped (c .before .before .before .loop .inv) (c .enum-told .given .1),
+    ))
+    (λ c κs. search needs)
     (λ c κs. search needs)
     (λ c. omega arith)
     (λ c. omega arith)
-    (λ c. loop-more _ _ _ _ _ _ (c .before .before .before .before .loop .inv) (c .before .before .before .loop-test .taken) (c .rule .ensures))
-    (λ c. loop-done _ _ _ _ _ _ (c .before .loop .inv) (c .loop-test .left)))
+    (λ c.
+    let told = c .before .before .before .before .before in
+    let test = told .before .before .before in
+    noting-more (test .before .loop .inv) (test .loop-test .taken) (told .before .walk .given .1) (c .before .before .before .put-place .ensures) (c .rule .ensures))
+    (λ c. c .before .loop .inv .long)
+    (λ c. (loop-done _ _ _ _ _ _ (c .before .loop .inv .walks) (c .loop-test .left), noting-all (c .before .loop .inv) (c .loop-test .left))))
