@@ -2,6 +2,7 @@
 
 use crate::answer::{Answer, Implementation};
 use crate::generate::{input, sweeps, Call, Input};
+use crate::report::report;
 use std::collections::BTreeMap;
 use std::fmt::{self, Write};
 use std::ops::Range;
@@ -139,6 +140,16 @@ pub enum Source {
     Sweep(usize),
 }
 
+impl Source {
+    /// The argument by which `compare/run show` finds the input.
+    pub fn argument(self) -> String {
+        match self {
+            Source::Seed(seed) => format!("first={seed}"),
+            Source::Sweep(index) => format!("sweep={index}"),
+        }
+    }
+}
+
 impl fmt::Display for Source {
     fn fmt(&self, out: &mut fmt::Formatter) -> fmt::Result {
         match self {
@@ -172,37 +183,57 @@ pub fn compare(
         if trace {
             eprintln!("{}, {source}", call.name());
         }
-        let expected = run(first, &input);
-        histogram.add(expected.answer, first.why());
-        if let Err(rule) = check_buffer(&input, &expected) {
-            let what = format!("the {} breaks: {rule}", first.name());
-            return Err(report(&what, call, source, &input));
-        }
-        let got = run(second, &input);
-        if got != expected {
-            let what = difference([first.name(), second.name()], &expected, &got);
-            return Err(report(&what, call, source, &input));
-        }
+        let outcome = both(first, second, &input)
+            .map_err(|difference| report(&difference, call, source, &input))?;
+        histogram.add(outcome.answer, first.why());
     }
     Ok(histogram)
 }
 
-/// What differs between the outcomes of two implementations.
-fn difference(names: [&str; 2], first: &Outcome, second: &Outcome) -> String {
-    let mut text = format!(
-        "{} {:?}, {} {:?}",
-        names[0], first.answer, names[1], second.answer
-    );
-    let place = match (&first.buffer, &second.buffer) {
-        (Buffer::Words(a), Buffer::Words(b)) => first_difference(a, b),
-        (Buffer::Bytes(a), Buffer::Bytes(b)) => first_difference(a, b),
-        _ => None,
+/// Runs an input on two implementations: their outcome, or what differs between them.
+fn both(
+    first: &dyn Implementation,
+    second: &dyn Implementation,
+    input: &Input,
+) -> Result<Outcome, String> {
+    let expected = run(first, input);
+    if let Err(rule) = check_buffer(input, &expected) {
+        return Err(format!("the {} breaks: {rule}", first.name()));
+    }
+    let got = run(second, input);
+    if got == expected {
+        Ok(expected)
+    } else {
+        let names = [first.name(), second.name()];
+        Err(difference(names, [&expected, &got]))
+    }
+}
+
+/// The answers of two implementations, and the first place where their buffers differ.
+pub fn difference(names: [&str; 2], outcomes: [&Outcome; 2]) -> String {
+    let [first, second] = names;
+    let [a, b] = outcomes.map(|outcome| outcome.answer.line());
+    let mut text = if a == b {
+        format!("the {first} and the {second} answer {a}")
+    } else {
+        format!("the {first} answers {a}, the {second} {b}")
     };
-    if let Some((index, a, b)) = place {
-        let place = index as i64 - GUARD as i64;
-        write!(text, "\nbuffers differ first at {place}: {a} and {b}").expect("a string grows");
+    if let Some((place, a, b)) = first_place(outcomes.map(|outcome| &outcome.buffer)) {
+        write!(text, "; their buffers differ first at {place}: {a} and {b}")
+            .expect("a string grows");
     }
     text
+}
+
+/// Where two buffers differ first, with what each has there. A place in the guard before them is
+/// below 0.
+fn first_place(buffers: [&Buffer; 2]) -> Option<(i64, u32, u32)> {
+    let (index, a, b) = match buffers {
+        [Buffer::Words(a), Buffer::Words(b)] => first_difference(a, b)?,
+        [Buffer::Bytes(a), Buffer::Bytes(b)] => first_difference(a, b)?,
+        _ => return None,
+    };
+    Some((index as i64 - GUARD as i64, a, b))
 }
 
 fn first_difference<T: Copy + Into<u32> + PartialEq>(
@@ -211,58 +242,6 @@ fn first_difference<T: Copy + Into<u32> + PartialEq>(
 ) -> Option<(usize, u32, u32)> {
     let index = (0..a.len()).find(|&index| a[index] != b[index])?;
     Some((index, a[index].into(), b[index].into()))
-}
-
-/// A report with the call, the source and the whole input.
-pub fn report(what: &str, call: Call, source: Source, input: &Input) -> String {
-    format!("{}, {source}: {what}\n{}", call.name(), show(input))
-}
-
-/// The whole input, bytes as escaped text and words as numbers.
-pub fn show(input: &Input) -> String {
-    let bytes = |name: &str, bytes: &[u8]| {
-        format!(
-            "{name} ({} bytes): \"{}\"\n",
-            bytes.len(),
-            bytes.escape_ascii()
-        )
-    };
-    let words = |name: &str, words: &[u32]| format!("{name} ({} words): {words:?}\n", words.len());
-    match input {
-        Input::CheckNames { list } => bytes("list", list),
-        Input::Read { list, text, tree } => {
-            bytes("list", list) + &bytes("text", text) + &words("buffer before", tree)
-        }
-        Input::CheckTree { tags, tree } => format!("tags: {tags}\n") + &words("tree", tree),
-        Input::Write {
-            list,
-            text,
-            tree,
-            out,
-        } => {
-            bytes("list", list)
-                + &bytes("text", text)
-                + &words("tree", tree)
-                + &bytes("buffer before", out)
-        }
-        Input::CheckSheet { sheet } => words("sheet", sheet),
-        Input::SheetFromFile {
-            file,
-            words: buffer,
-        } => bytes("file", file) + &words("buffer before", buffer),
-        Input::Judge {
-            sheet,
-            tree,
-            states,
-        } => words("sheet", sheet) + &words("tree", tree) + &words("buffer before", states),
-        Input::Swap { sheet, out } => words("sheet", sheet) + &words("buffer before", out),
-        Input::Join { first, second, out } => {
-            words("first", first) + &words("second", second) + &words("buffer before", out)
-        }
-        Input::Formcheck { list, file, text } => {
-            bytes("list", list) + &bytes("file", file) + &bytes("text", text)
-        }
-    }
 }
 
 /// "A refusal writes nothing, but 23 zeroes the first n state words. Words past an answer keep

@@ -10,5 +10,6 @@ pub mod generate;
 pub mod laws;
 pub mod linked;
 pub mod reference;
+pub mod report;
 #[cfg(test)]
 mod tests;

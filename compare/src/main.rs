@@ -21,6 +21,7 @@ use compare::generate::{Call, CALLS};
 use compare::laws::{self, Tally};
 use compare::linked::Linked;
 use compare::reference::Reference;
+use compare::report;
 use std::io::Write;
 use std::process::ExitCode;
 use std::time::Instant;
@@ -208,7 +209,7 @@ fn show(reference: &Reference, call: Call, options: &Options) {
     let Some((source, input)) = found else {
         return println!("{}: no such input", call.name());
     };
-    print!("{}", beside::report("input", call, source, &input));
+    print!("{}, {source}\n{}", call.name(), report::show(&input));
     let answer = beside::run(reference, &input).answer;
     println!("reference: {answer:?} {}", reference.why());
     println!("library: {:?}", beside::run(&Linked, &input).answer);

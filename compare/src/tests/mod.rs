@@ -7,6 +7,7 @@ mod join;
 mod judge;
 mod names;
 mod read;
+mod report;
 mod sheet;
 mod tree;
 mod write;
