@@ -190,6 +190,20 @@ pub fn compare(
     Ok(histogram)
 }
 
+/// How many inputs it takes until so many have made a difference, if that many do.
+pub fn inputs_until(
+    differences: usize,
+    first: &dyn Implementation,
+    second: &dyn Implementation,
+    inputs: impl Iterator<Item = (Source, Input)>,
+) -> Option<usize> {
+    let mut differing = inputs
+        .enumerate()
+        .filter(|(_, (_, input))| both(first, second, input).is_err());
+    let (index, _) = differing.nth(differences.checked_sub(1)?)?;
+    Some(index + 1)
+}
+
 /// Runs an input on two implementations: their outcome, or what differs between them.
 fn both(
     first: &dyn Implementation,

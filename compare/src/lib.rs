@@ -7,6 +7,7 @@ pub mod cases;
 pub mod damage;
 pub mod document;
 pub mod generate;
+pub mod jobs;
 pub mod laws;
 pub mod linked;
 pub mod reference;

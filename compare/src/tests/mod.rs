@@ -3,6 +3,7 @@
 mod cases;
 mod formcheck;
 mod generators;
+mod jobs;
 mod join;
 mod judge;
 mod names;

@@ -4,7 +4,7 @@
 use std::path::Path;
 
 fn main() {
-    let library = Path::new(env!("CARGO_MANIFEST_DIR")).join("../target/staticlib/libcapi.a");
+    let library = Path::new(env!("CARGO_MANIFEST_DIR")).join("../../target/staticlib/libcapi.a");
     println!("cargo:rerun-if-changed={}", library.display());
     println!("cargo:rustc-link-arg-bins={}", library.display());
 }

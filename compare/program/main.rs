@@ -1,34 +1,30 @@
 //! Runs the linked library beside the reference on the repository's cases, on the laws between the
-//! calls, on each call's sweep and on drawn inputs, and ends at the first difference.
-//!
-//!     compare [inputs=N] [first=SEED] [call=NAME] [answers] [trace]
-//!         answers: prints also how often each answer was given; trace: each input before it runs
-//!     compare cases
-//!         the case files alone
-//!     compare table
-//!         prints the tables that the reference gives for the case files
-//!     compare damage=NAME
-//!         the same for one call of a damaged reference: the difference must be found
-//!     compare show call=NAME first=SEED
-//!     compare show call=NAME sweep=INDEX
-//!         prints one input and its two answers
+//! calls, on each call's sweep and on drawn inputs, and ends at the first difference. The head of
+//! `compare/run` has the arguments.
 
 use compare::answer::Implementation;
 use compare::beside;
 use compare::cases::{self, ForC};
 use compare::damage::{Damage, Damaged, DAMAGES};
 use compare::generate::{Call, CALLS};
+use compare::jobs::{self, Job, Said};
 use compare::laws::{self, Tally};
 use compare::linked::Linked;
 use compare::reference::Reference;
 use compare::report;
-use std::io::Write;
+use std::fmt::Write as _;
+use std::io::Write as _;
+use std::ops::Range;
 use std::process::ExitCode;
 use std::time::Instant;
 
-/// So many inputs are drawn for each call: two minutes on one core.
-const INPUTS: u64 = 160_000;
+/// So many inputs are drawn for each call and each law, unless the arguments say how many.
+const INPUTS: u64 = 20_000;
 
+/// So many of the drawn inputs must find a damage.
+const FINDS: usize = 20;
+
+#[derive(Clone, Copy)]
 struct Options {
     inputs: u64,
     first: u64,
@@ -90,7 +86,7 @@ fn named<T: Copy, const N: usize>(
 }
 
 fn main() -> ExitCode {
-    match options().and_then(|options| work(&options)) {
+    match options().and_then(work) {
         Ok(()) => ExitCode::SUCCESS,
         Err(message) => {
             eprintln!("{message}");
@@ -99,118 +95,135 @@ fn main() -> ExitCode {
     }
 }
 
-fn work(options: &Options) -> Result<(), String> {
-    let reference = Reference::default();
+fn work(options: Options) -> Result<(), String> {
     if options.table {
-        let tables = cases::tables(&reference)?;
+        let tables = cases::tables(&Reference::default())?;
         let written = std::io::stdout().write_all(&tables);
         return written.map_err(|error| error.to_string());
-    }
-    if options.cases {
-        check_cases(&reference)?;
-        return check_cases(&Linked);
     }
     if options.show {
         let calls = options.call.map_or(CALLS.to_vec(), |call| vec![call]);
         for call in calls {
-            show(&reference, call, options);
+            show(call, &options);
         }
         return Ok(());
     }
-    if let Some(damage) = options.damage {
-        return compare_call(&Linked, &Damaged::new(damage), damage.call(), options);
-    }
-    if let Some(call) = options.call {
-        return compare_call(&reference, &Linked, call, options);
-    }
-    check_alone(&reference, options)?;
-    check_alone(&Linked, options)?;
-    for call in CALLS {
-        compare_call(&reference, &Linked, call, options)?;
-    }
-    try_damages(options)
+    jobs::run(jobs_of(options), |lines| print!("{lines}"))
 }
 
-/// Compares a call of two implementations, and prints one line.
+/// What the arguments ask for, in the order in which it is printed.
+fn jobs_of(options: Options) -> Vec<Job> {
+    if options.cases {
+        return vec![
+            Box::new(|| check_cases(&Reference::default())),
+            Box::new(|| check_cases(&Linked)),
+        ];
+    }
+    if let Some(damage) = options.damage {
+        let call = damage.call();
+        return vec![Box::new(move || {
+            compare_call(&Linked, &Damaged::new(damage), call, &options)
+        })];
+    }
+    let compare = |call| -> Job {
+        Box::new(move || compare_call(&Reference::default(), &Linked, call, &options))
+    };
+    if let Some(call) = options.call {
+        return vec![compare(call)];
+    }
+    let mut jobs: Vec<Job> = vec![
+        Box::new(move || check_alone(&Reference::default(), &options)),
+        Box::new(move || check_alone(&Linked, &options)),
+    ];
+    jobs.extend(CALLS.map(compare));
+    jobs.extend(DAMAGES.map(|damage| -> Job { Box::new(move || find_damage(damage, &options)) }));
+    jobs
+}
+
+/// The drawn inputs' seeds.
+fn seeds(options: &Options) -> Range<u64> {
+    options.first..options.first + options.inputs
+}
+
+/// Compares a call of two implementations.
 fn compare_call(
     first: &dyn Implementation,
     second: &dyn Implementation,
     call: Call,
     options: &Options,
-) -> Result<(), String> {
+) -> Said {
     let start = Instant::now();
-    let seeds = options.first..options.first + options.inputs;
     let inputs = beside::swept(call);
     let swept = beside::compare(first, second, call, inputs, options.trace)?;
-    let inputs = beside::drawn(call, seeds);
+    let inputs = beside::drawn(call, seeds(options));
     let drawn = beside::compare(first, second, call, inputs, options.trace)?;
-    println!(
-        "{:<16}{:>8} inputs in order, {:>8} drawn: no difference ({:.1} s)",
+    let mut said = format!(
+        "{:<16}{:>8} inputs in order, {:>8} drawn: no difference ({:.1} s)\n",
         call.name(),
         swept.inputs(),
         drawn.inputs(),
         start.elapsed().as_secs_f64()
     );
     if options.answers {
-        print!("{}{}", swept.lines(), drawn.lines());
+        said += &(swept.lines() + &drawn.lines());
     }
-    Ok(())
+    Ok(said)
 }
 
 /// The cases, by one implementation alone.
-fn check_cases(calls: &dyn ForC) -> Result<(), String> {
+fn check_cases(calls: &dyn ForC) -> Said {
     let start = Instant::now();
     let cases = cases::check(calls)?;
     let (name, seconds) = (calls.name(), start.elapsed().as_secs_f64());
-    println!("{name}: {cases} cases hold ({seconds:.1} s)");
-    Ok(())
+    Ok(format!("{name}: {cases} cases hold ({seconds:.1} s)\n"))
 }
 
 /// The cases and the laws, by one implementation alone.
-fn check_alone(calls: &dyn ForC, options: &Options) -> Result<(), String> {
+fn check_alone(calls: &dyn ForC, options: &Options) -> Said {
     let start = Instant::now();
     let cases = cases::check(calls)?;
     let mut tally = Tally::default();
-    for seed in options.first..options.first + options.inputs {
+    for seed in seeds(options) {
         laws::words_of_sheet(seed)?;
         laws::round_trip(calls, seed, &mut tally)?;
         laws::swap_and_join(calls, seed, &mut tally)?;
     }
     let (name, seconds) = (calls.name(), start.elapsed().as_secs_f64());
-    println!("{name}: {cases} cases and the laws hold ({seconds:.1} s)");
+    let mut said = format!("{name}: {cases} cases and the laws hold ({seconds:.1} s)\n");
     if options.answers {
-        println!("  {tally:?}");
+        writeln!(said, "  {tally:?}").expect("a string grows");
     }
-    Ok(())
+    Ok(said)
 }
 
-/// The comparison itself: each damage must be found.
-fn try_damages(options: &Options) -> Result<(), String> {
-    let seeds = options.first..options.first + options.inputs;
-    for damage in DAMAGES {
-        let call = damage.call();
-        let inputs = beside::drawn(call, seeds.clone());
-        let compared = beside::compare(&Linked, &Damaged::new(damage), call, inputs, false);
-        if compared.is_ok() {
-            return Err(format!("damage {} isn't found", damage.name()));
-        }
-        println!("damage {}: found", damage.name());
+/// The comparison itself: enough of the drawn inputs must find a damage.
+fn find_damage(damage: Damage, options: &Options) -> Said {
+    let inputs = beside::drawn(damage.call(), seeds(options));
+    let until = beside::inputs_until(FINDS, &Linked, &Damaged::new(damage), inputs);
+    let name = damage.name();
+    match until {
+        Some(inputs) => Ok(format!(
+            "damage {name}: found by {FINDS} of {inputs} inputs\n"
+        )),
+        None => Err(format!(
+            "damage {name}: fewer than {FINDS} of {} inputs find it",
+            options.inputs
+        )),
     }
-    Ok(())
 }
 
 /// Prints one input of a call and what the reference and the library answer.
-fn show(reference: &Reference, call: Call, options: &Options) {
-    let seeds = options.first..options.first + 1;
+fn show(call: Call, options: &Options) {
     let found = match options.sweep {
         Some(index) => beside::swept(call).nth(index),
-        None => beside::drawn(call, seeds).next(),
+        None => beside::drawn(call, options.first..options.first + 1).next(),
     };
     let Some((source, input)) = found else {
         return println!("{}: no such input", call.name());
     };
     print!("{}, {source}\n{}", call.name(), report::show(&input));
-    let answer = beside::run(reference, &input).answer;
+    let reference = Reference::default();
+    let answer = beside::run(&reference, &input).answer;
     println!("reference: {answer:?} {}", reference.why());
     println!("library: {:?}", beside::run(&Linked, &input).answer);
 }
