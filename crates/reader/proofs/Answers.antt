@@ -21,7 +21,7 @@ use Rattle.model.proofs.TreeLaws.{length-wordsD}
 use Rattle.model.proofs.Scan.{scan-is}
 use Rattle.names.specs.Lines.{line-count}
 use Rattle.names.proofs.IndexLaws.{all-indexed}
-use Rattle.reader.specs.Packed.{all-unpacked}
+use Rattle.read_nodes.specs.Packed.{all-unpacked}
 use Rattle.reader.specs.Reading.{Refuses, Whole}
 
 -- ---- the check of the name list

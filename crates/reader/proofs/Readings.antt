@@ -24,17 +24,18 @@ use Rattle.model.proofs.Tests.{Yes, never, or-left, or-right, or-cases, same, e
 use Rattle.model.proofs.NameLaws.{bytes-same, tag-few}
 use Rattle.model.proofs.RoundScan.{state, an-open}
 use Rattle.names.specs.Lines.{line-count, name-by}
-use Rattle.reader.specs.Listing.{Listing}
-use Rattle.reader.specs.Packed.{packed, unpacked, closed-words, closed-scan, Holds, outermost, inside}
-use Rattle.reader.specs.Reading.{at-offset, Reads, ReadsAt, AtStartTag, InContent, AtToken, Solid, Refuses, stop-number, refusal-by, on-step, refused-step, After, Goes, Whole}
-use Rattle.reader.specs.Runs.{run, class-within, first-class, trim}
-use Rattle.reader.specs.declared.scan.Scan.{Scan}
-use Rattle.reader.specs.declared.scan.Step.{Step}
-use Rattle.reader.proofs.RunLaws.{byte-there, no-white-run, run-within, name-run, name-first, name-length, text-run, kind-few}
-use Rattle.reader.proofs.TagLaws.{named-well, tag-named, tag-other}
+use Rattle.read_names.specs.Listing.{Listing}
+use Rattle.read_nodes.specs.Packed.{packed, unpacked, closed-words, closed-scan, Holds, outermost, inside}
+use Rattle.read_scan.specs.Scans.{at-offset, stop-number, refusal-by, on-step, refused-step}
+use Rattle.reader.specs.Reading.{Reads, ReadsAt, AtStartTag, InContent, AtToken, Solid, Refuses, After, Goes, Whole}
+use Rattle.read_runs.specs.Runs.{run, class-within, first-class, trim}
+use Rattle.read_scan.specs.declared.Scan.{Scan}
+use Rattle.read_scan.specs.declared.Step.{Step}
+use Rattle.read_runs.proofs.RunLaws.{byte-there, no-white-run, run-within, name-run, name-first, name-length, text-run, kind-few}
+use Rattle.read_names.proofs.TagLaws.{named-well, tag-named, tag-other}
 use Rattle.reader.proofs.Steps.{onward}
 use Rattle.reader.proofs.Tokens.{Waits, before-waits, blank-waits, start-gap-waits, end-gap-waits, after-waits, Leads, at-root, in-content, white-run, white-left, less-on, too-deep, too-many, unknown, opened, start-ends, slash-on, empty-ends, end-on, end-ends, other-name, own-name, text-end, text-too-many, text-ends, text-broken, stuck-before, stuck-root-open, stuck-tag-open, stuck-blank, stuck-start-gap, stuck-start-slash, stuck-end-open, stuck-end-gap, stuck-after, all-read}
-use Rattle.reader.proofs.PackLaws.{holds-none, holds-all, packed-tag, unpacked-packed, holds-open, holds-text, open-tag, top-read, parent-above, holds-close}
+use Rattle.read_nodes.proofs.PackLaws.{holds-none, holds-all, packed-tag, unpacked-packed, holds-open, holds-text, open-tag, top-read, parent-above, holds-close}
 
 -- ---- refusals, and steps that read no node
 

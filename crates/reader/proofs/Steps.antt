@@ -20,9 +20,9 @@ use Rattle.model.proofs.Tests.{Yes}
 use Rattle.model.proofs.ListLaws.{every-∈, ∈-numbers}
 use Rattle.model.proofs.Scan.{scan}
 use Rattle.model.proofs.RoundScan.{state}
-use Rattle.reader.specs.Runs.{run, first-class}
-use Rattle.reader.specs.Reading.{stop-number}
-use Rattle.reader.proofs.RunLaws.{here, byte-there, class-there, class-end}
+use Rattle.read_runs.specs.Runs.{run, first-class}
+use Rattle.read_scan.specs.Scans.{stop-number}
+use Rattle.read_runs.proofs.RunLaws.{here, byte-there, class-there, class-end}
 
 -- the move of a place for a class's number; none for the end of the text
 abbrev pub move-by : Place → ℕ → Move

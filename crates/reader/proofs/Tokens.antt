@@ -20,9 +20,9 @@ use Rattle.model.proofs.Tests.{Yes, never, between-inv}
 use Rattle.model.proofs.ByteLaws.{text-cases}
 use Rattle.model.proofs.Scan.{scan}
 use Rattle.model.proofs.RoundScan.{state, an-open}
-use Rattle.reader.specs.Runs.{run, class-within, first-class}
-use Rattle.reader.specs.Reading.{stop-number}
-use Rattle.reader.proofs.RunLaws.{run-left, run-on, byte-there, class-there}
+use Rattle.read_runs.specs.Runs.{run, class-within, first-class}
+use Rattle.read_scan.specs.Scans.{stop-number}
+use Rattle.read_runs.proofs.RunLaws.{run-left, run-on, byte-there, class-there}
 use Rattle.reader.proofs.Steps.{move-by, number-by, onward, step, stuck, stuck-there, forward, alike, run-stays}
 
 -- ---- classes of a run's bytes

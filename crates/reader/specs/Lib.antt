@@ -1,4 +1,1 @@
-pub mod Runs
-pub mod Packed
-pub mod Listing
 pub mod Reading

@@ -1,29 +1,23 @@
 -- How far a text is read, against the one pass of the model.
 use mathlib.Core.Path.{_≡_}
 use mathlib.Core.Logic.{_≢_, _⊎_}
-use mathlib.Core.Bool.{cond}
 use mathlib.Core.List.{List}
 use Prim.Native.Nat.{ℕ, _+_, _≤_, _<_}
-use lib.Dec.{eqb}
 use lib.ListN.{length, take, drop}
 use Rattle.model.specs.Answers.{said-refusal, refusal, Checked, passes, refuses}
 use Rattle.model.specs.Tree.{Document, sizeD, wordsD}
 use Rattle.model.specs.Text.{Place, before, blank, Open, outside, form-of}
 use Rattle.model.specs.declared.Refusal.{Refusal}
-use Rattle.model.specs.declared.Refusal.the-variants.{ForbiddenByte, Syntax, UnknownName, OtherName, Depth, ManyNodes}
 use Rattle.model.specs.declared.Answer.{Answer}
 use Rattle.model.specs.declared.Answer.the-variants.{Count, Error}
 use Rattle.model.proofs.Scan.{scan}
 use Rattle.model.proofs.RoundScan.{state}
 use Rattle.names.specs.Lines.{line-count}
-use Rattle.reader.specs.Packed.{all-unpacked, Holds}
-use Rattle.reader.specs.Runs.{first-class}
-use Rattle.reader.specs.declared.scan.Scan.{Scan}
-use Rattle.reader.specs.declared.scan.Step.{Step}
-
--- the scan at another offset
-abbrev pub at-offset : Scan → ℕ → Scan
-at-offset s at = record { at = at; top = s .top; depth = s .depth; nodes = s .nodes }
+use Rattle.read_nodes.specs.Packed.{all-unpacked, Holds}
+use Rattle.read_runs.specs.Runs.{first-class}
+use Rattle.read_scan.specs.Scans.{refusal-by}
+use Rattle.read_scan.specs.declared.Scan.{Scan}
+use Rattle.read_scan.specs.declared.Step.{Step}
 
 -- No byte before `s .at` is refused; the text goes on from there at a place, which may depend on the open elements.
 -- The words hold the nodes that are read.
@@ -70,26 +64,6 @@ pub record Refuses (form : Checked Document) (r : Refusal) : Type 0 where
   pub place : ℕ
   pub is : form ≡ refuses number place
   pub says : said-refusal r ≡ refusal number place
-
--- the refusal with a number that a token is refused with
-abbrev pub refusal-by : (number at : ℕ) → Refusal
-refusal-by number at =
-    cond (eqb number 2) (ForbiddenByte at)
-    (cond (eqb number 4) (UnknownName at)
-    (cond (eqb number 5) (OtherName at)
-    (cond (eqb number 6) (Depth at)
-    (cond (eqb number 7) (ManyNodes at) (Syntax at)))))
-
--- the number for a byte, by its class, or the end, that the form can't go on with
-abbrev pub stop-number : ℕ → ℕ
-stop-number class = cond (eqb class 8) 2 3
-
--- a step on, and a step that is refused
-abbrev pub on-step : Scan → Step
-on-step s = record { refused = 0; scan = s }
-
-abbrev pub refused-step : (number at : ℕ) → Step
-refused-step number at = record { refused = number; scan = record { at = at; top = 0; depth = 0; nodes = 0 } }
 
 -- after a step the text is read so, or it is refused
 pub record After (form : Checked Document) (So : Scan → Type 0) (step : Step) : Type 0 where

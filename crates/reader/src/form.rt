@@ -7,23 +7,23 @@ ghost use Rattle.model.specs.Names.{names-of};
 ghost use Rattle.chars.specs.Table.{table};
 ghost use Rattle.names.specs.Lines.{line-count};
 ghost use Rattle.names.specs.Chains.{Chained};
-ghost use Rattle.reader.specs.Listing.{Listing};
+ghost use Rattle.read_names.specs.Listing.{Listing};
 ghost use Rattle.reader.specs.Reading.{AtStartTag, Begins, Scanned, Ends};
 use crate::content::token;
-use crate::nodes::Words;
-use crate::runs::Classes;
-use crate::runs::class_at;
-use crate::runs::past_white;
-use crate::scan::NONE;
-use crate::scan::Scan;
-use crate::scan::Step;
-use crate::scan::on;
-use crate::scan::refusal_of;
-use crate::scan::stopped;
-use crate::tags::PerBucket;
-use crate::tags::PerName;
-use crate::tags::chain;
 use model::Answer;
+use read_names::PerBucket;
+use read_names::PerName;
+use read_names::chain;
+use read_nodes::Words;
+use read_runs::Classes;
+use read_runs::class_at;
+use read_runs::past_white;
+use read_scan::NONE;
+use read_scan::Scan;
+use read_scan::Step;
+use read_scan::on;
+use read_scan::refusal_of;
+use read_scan::stopped;
 
 // The number of nodes, whose words go to `words`; or the first of the refusals 2 to 7.
 pub(crate) fn scan_form(list: &[u8], text: &[u8], words: &mut Words) -> Answer

@@ -11,10 +11,6 @@ ghost use Rattle.names.specs.Lines.{line-count};
 
 mod content;
 mod form;
-mod nodes;
-mod runs;
-mod scan;
-mod tags;
 
 use form::scan_form;
 use layout::MOST_BYTES;
@@ -22,7 +18,7 @@ use layout::MOST_NODES;
 use layout::NODE_WORDS;
 use model::Answer;
 use model::Refusal;
-use nodes::unpack;
+use read_nodes::unpack;
 
 // The number of nodes, whose words go to the front of the tree; or the first of the refusals 8, 1, 2 to 7 and 22, which leaves the
 // tree as it was.

@@ -3,7 +3,7 @@ use native.Mathlib.Omega.{arith}
 use borrow.Author.Needs.{needs}
 use Rattle.names.proofs.IndexLaws.{indexed}
 use Rattle.names.proofs.ChainLaws.{chained-none}
-use Rattle.reader.specs.Listing.{Listing}
+use Rattle.read_names.specs.Listing.{Listing}
 use Rattle.reader.proofs.form.scan_form.Statement.{statement}
 use Rattle.reader.proofs.form.scan_form.Tie as tie
 
