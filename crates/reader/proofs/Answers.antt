@@ -22,7 +22,7 @@ use Rattle.model.proofs.Scan.{scan-is}
 use Rattle.names.specs.Lines.{line-count}
 use Rattle.names.proofs.IndexLaws.{all-indexed}
 use Rattle.read_nodes.specs.Packed.{all-unpacked}
-use Rattle.reader.specs.Reading.{Refuses, Whole}
+use Rattle.read_pass.specs.Reading.{Refuses, Whole}
 
 -- ---- the check of the name list
 

@@ -1,4 +1,1 @@
-mod Steps
-mod Tokens
-mod Readings
 mod Answers

@@ -8,16 +8,12 @@ ghost use Rattle.model.specs.Answers.{said, passes};
 ghost use Rattle.model.specs.Calls.{read-said, read-tree};
 ghost use Rattle.model.specs.Names.{names-of};
 ghost use Rattle.names.specs.Lines.{line-count};
-
-mod content;
-mod form;
-
-use form::scan_form;
 use layout::MOST_BYTES;
 use layout::MOST_NODES;
 use layout::NODE_WORDS;
 use model::Answer;
 use model::Refusal;
+use read_form::scan_form;
 use read_nodes::unpack;
 
 // The number of nodes, whose words go to the front of the tree; or the first of the refusals 8, 1, 2 to 7 and 22, which leaves the

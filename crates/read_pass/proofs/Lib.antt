@@ -1,0 +1,3 @@
+mod Steps
+mod Tokens
+pub mod Readings
