@@ -49,7 +49,8 @@ pub extern "C" fn formcheck_read(
     answer: &mut [u64],
 ) -> u32
     ensures kind { λ r. ⌜ r ≡ kind-of (read-said (now (list .entry)) (now (text .entry)) (now (tree .entry))) ⌝ }
-    ensures answer { λ r. ⌜ now (answer .exit) ≡ answer-after (now (answer .entry)) (read-said (now (list .entry)) (now (text .entry)) (now (tree .entry))) ⌝ }
+    ensures answer { λ r. ⌜ now (answer .exit) ≡ answer-after (now (answer .entry))
+        (read-said (now (list .entry)) (now (text .entry)) (now (tree .entry))) ⌝ }
     ensures tree { λ r. ⌜ now (tree .exit) ≡ read-tree (now (list .entry)) (now (text .entry)) (now (tree .entry)) ⌝ }
 {
     hand_over(of_answer(reader::read(list, text, tree)), answer)
@@ -74,7 +75,8 @@ pub extern "C" fn formcheck_write(
     answer: &mut [u64],
 ) -> u32
     ensures kind { λ r. ⌜ r ≡ kind-of (write-said (now (list .entry)) (now (text .entry)) (now (tree .entry)) (now (out .entry))) ⌝ }
-    ensures answer { λ r. ⌜ now (answer .exit) ≡ answer-after (now (answer .entry)) (write-said (now (list .entry)) (now (text .entry)) (now (tree .entry)) (now (out .entry))) ⌝ }
+    ensures answer { λ r. ⌜ now (answer .exit) ≡ answer-after (now (answer .entry))
+        (write-said (now (list .entry)) (now (text .entry)) (now (tree .entry)) (now (out .entry))) ⌝ }
     ensures out { λ r. ⌜ now (out .exit) ≡ write-out (now (list .entry)) (now (text .entry)) (now (tree .entry)) (now (out .entry)) ⌝ }
 {
     hand_over(of_answer(writer::write(list, text, tree, out)), answer)
@@ -97,7 +99,8 @@ pub extern "C" fn formcheck_sheet_from_file(
     answer: &mut [u64],
 ) -> u32
     ensures kind { λ r. ⌜ r ≡ kind-of (from-file-said (now (file .entry)) (now (sheet .entry))) ⌝ }
-    ensures answer { λ r. ⌜ now (answer .exit) ≡ answer-after (now (answer .entry)) (from-file-said (now (file .entry)) (now (sheet .entry))) ⌝ }
+    ensures answer { λ r. ⌜ now (answer .exit) ≡ answer-after (now (answer .entry))
+        (from-file-said (now (file .entry)) (now (sheet .entry))) ⌝ }
     ensures sheet { λ r. ⌜ now (sheet .exit) ≡ from-file-sheet (now (file .entry)) (now (sheet .entry)) ⌝ }
 {
     hand_over(of_answer(sheet::from_file(file, sheet)), answer)
@@ -112,7 +115,8 @@ pub extern "C" fn formcheck_judge(
     answer: &mut [u64],
 ) -> u32
     ensures kind { λ r. ⌜ r ≡ kind-of (judge-said (now (sheet .entry)) (now (tree .entry)) (now (states .entry))) ⌝ }
-    ensures answer { λ r. ⌜ now (answer .exit) ≡ answer-after (now (answer .entry)) (judge-said (now (sheet .entry)) (now (tree .entry)) (now (states .entry))) ⌝ }
+    ensures answer { λ r. ⌜ now (answer .exit) ≡ answer-after (now (answer .entry))
+        (judge-said (now (sheet .entry)) (now (tree .entry)) (now (states .entry))) ⌝ }
     ensures states { λ r. ⌜ now (states .exit) ≡ judge-states (now (sheet .entry)) (now (tree .entry)) (now (states .entry)) ⌝ }
 {
     hand_over(of_judgement(judge::judge(sheet, tree, states)), answer)
@@ -137,7 +141,8 @@ pub extern "C" fn formcheck_join(
     answer: &mut [u64],
 ) -> u32
     ensures kind { λ r. ⌜ r ≡ kind-of (join-said (now (first .entry)) (now (second .entry)) (now (out .entry))) ⌝ }
-    ensures answer { λ r. ⌜ now (answer .exit) ≡ answer-after (now (answer .entry)) (join-said (now (first .entry)) (now (second .entry)) (now (out .entry))) ⌝ }
+    ensures answer { λ r. ⌜ now (answer .exit) ≡ answer-after (now (answer .entry))
+        (join-said (now (first .entry)) (now (second .entry)) (now (out .entry))) ⌝ }
     ensures out { λ r. ⌜ now (out .exit) ≡ join-out (now (first .entry)) (now (second .entry)) (now (out .entry)) ⌝ }
 {
     hand_over(of_answer(compose::join(first, second, out)), answer)
@@ -152,7 +157,8 @@ pub extern "C" fn formcheck_verdict(
     answer: &mut [u64],
 ) -> u32
     ensures kind { λ r. ⌜ r ≡ kind-of (formcheck (now (list .entry)) (now (file .entry)) (now (text .entry))) ⌝ }
-    ensures answer { λ r. ⌜ now (answer .exit) ≡ answer-after (now (answer .entry)) (formcheck (now (list .entry)) (now (file .entry)) (now (text .entry))) ⌝ }
+    ensures answer { λ r. ⌜ now (answer .exit) ≡ answer-after (now (answer .entry))
+        (formcheck (now (list .entry)) (now (file .entry)) (now (text .entry))) ⌝ }
 {
     hand_over(of_judgement(verdict::check(list, file, text)), answer)
 }

@@ -42,7 +42,8 @@ fn wide(x: u32) -> usize
 fn judge_form(list: &[u8], names: usize, sheet: &[u32], text: &[u8]) -> Judgement
     requires names { ⌜ names-of (now list) ≡ passes names ⌝ }
     requires sheet { ⌜ Passes (now sheet) ⌝ }
-    ensures { λ r. ⌜ ((file : List ℕ) → file-words file ≡ now (sheet .entry) → said-judgement r ≡ formcheck (now (list .entry)) file (now (text .entry))) ⌝ }
+    ensures { λ r. ⌜ ((file : List ℕ) → file-words file ≡ now (sheet .entry) →
+        said-judgement r ≡ formcheck (now (list .entry)) file (now (text .entry))) ⌝ }
 {
     let mut tree = [0u32; TREE_WORDS];
     let mut states = [0u32; MOST_NODES];
@@ -78,7 +79,8 @@ pub fn check(list: &[u8], file: &[u8], text: &[u8]) -> Judgement
 // The line that formcheck prints of a name list, the bytes of a sheet's file and a form goes to the front of `out`; its number of bytes.
 pub fn line(list: &[u8], file: &[u8], text: &[u8], out: &mut [u8; LINE_BYTES]) -> usize
     ensures bytes { λ r. ⌜ r ≡ length (formcheck-line (now (list .entry)) (now (file .entry)) (now (text .entry))) ⌝ }
-    ensures out { λ r. ⌜ now (out .exit) ≡ formcheck-line (now (list .entry)) (now (file .entry)) (now (text .entry)) ++ drop r (now (out .entry)) ⌝ }
+    ensures out { λ r. ⌜ now (out .exit) ≡ formcheck-line (now (list .entry)) (now (file .entry)) (now (text .entry))
+        ++ drop r (now (out .entry)) ⌝ }
     ensures within { λ r. ⌜ Counts r (now (out .exit)) ⌝ }
 {
     line::of_judgement(check(list, file, text), out)
