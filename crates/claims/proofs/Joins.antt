@@ -16,7 +16,7 @@ use Rattle.model.specs.Sheet.{Sheet, sheet-of}
 use Rattle.model.specs.Compose.{pair, swapped, joint}
 use Rattle.model.specs.Calls.{swap, join}
 use Rattle.model.proofs.Answered.{Promised, front-left}
-use Rattle.model.proofs.Demand2.{looks-in}
+use Rattle.model.specs.Answers.{looks-in}
 use Rattle.model.proofs.Demand3.{Reading, Sheet-on, TakesTo, AcceptsIt, NoTwo, join-passes, swap-passes, joint-looks, joint-gives-no-two, joint-takes-pair, joint-accepts-both, swapped-accepts-rest}
 use Rattle.judge.proofs.Claims as judge
 

@@ -13,7 +13,8 @@ use Rattle.model.specs.Tree.{Element, nodes, size, tree-of}
 use Rattle.model.specs.Sheet.{Sheet, sheet-of}
 use Rattle.model.specs.Relation.{AtMostOne, ReachesTwo, Single, GivesTwo, Takes, NoState, SomeState, StatesOf, Highest}
 use Rattle.model.specs.Calls.{judge-said, judge-states}
-use Rattle.model.proofs.Demand2.{Names, looks-in, verdict-names, verdict-accepts, verdict-two, verdict-two-at, verdict-stuck, verdict-stuck-at, states-say, states-zeroed, states-past, looks-bound}
+use Rattle.model.specs.Answers.{looks-in}
+use Rattle.model.proofs.Demand2.{Names, verdict-names, verdict-accepts, verdict-two, verdict-two-at, verdict-stuck, verdict-stuck-at, states-say, states-zeroed, states-past, looks-bound}
 use Rattle.judge.proofs.judge.Reads as reads
 
 -- What `judge` promises of its answer r and of the states that it leaves: its three `ensures`, on the words that it is lent.

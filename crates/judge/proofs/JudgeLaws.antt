@@ -20,7 +20,8 @@ use Rattle.model.proofs.Tests.{Told, yea, nay, told}
 use Rattle.model.proofs.SheetCode.{sheet-passes}
 use Rattle.model.proofs.TreeLaws.{length-words, tree-passes}
 use Rattle.model.proofs.RunLaws.{over-formed, RunSays, run-says}
-use Rattle.model.proofs.Demand2.{looks-in, looks-bound}
+use Rattle.model.specs.Answers.{looks-in}
+use Rattle.model.proofs.Demand2.{looks-bound}
 use Rattle.model.proofs.Answered as answered
 use Rattle.judge.specs.Index.{passed, sheet-in, rules-in, Passes}
 use Rattle.judge.specs.Node.{Form, Shaped}

@@ -5,7 +5,7 @@ ghost use lib.ListN.{length, getD};
 ghost use Rattle.model.specs.Answers.{said-judgement};
 ghost use Rattle.model.specs.Run.{items, run, verdict};
 ghost use Rattle.model.specs.Calls.{judge-said, first-states, judge-states};
-ghost use Rattle.model.proofs.Demand2.{looks-in};
+ghost use Rattle.model.specs.Answers.{looks-in};
 ghost use Rattle.judge.specs.Index.{sheet-in, rules-in, Passes};
 ghost use Rattle.judge.specs.Node.{Form};
 

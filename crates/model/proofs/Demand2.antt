@@ -10,7 +10,7 @@ use lib.ListN.{length, take, drop, replicate, length-replicate}
 use lib.Seq.{take-at, drop-at}
 use borrow.Author.Tests.{le-leb}
 use Rattle.model.specs.Lists.{_∈_, has}
-use Rattle.model.specs.Answers.{Said, count, accepted, refused, stuck, refusal, passes, _>>=_, _>>_, require, room-for}
+use Rattle.model.specs.Answers.{Said, count, accepted, refused, stuck, refusal, looks-in, passes, _>>=_, _>>_, require, room-for}
 use Rattle.model.specs.Tree.{Element, nodes, size, words, tree-of, Over}
 use Rattle.model.specs.Sheet.{Sheet, sheet-of, InRange}
 use Rattle.model.specs.Relation.{AtMostOne, ReachesTwo, Single, GivesTwo, Takes, NoState, SomeState, StatesOf, Highest}
@@ -27,14 +27,6 @@ use Rattle.model.proofs.RunLaws.{over-formed, RunSays, run-says}
 -- the verdict names a state
 abbrev pub Names : Said → ℕ → Type 0
 Names x q = (m : ℕ) × ((x ≡ accepted q m) ⊎ (x ≡ refused q m))
-
--- the looks of a verdict
-abbrev pub looks-in : Said → ℕ
-looks-in (count n) = zero
-looks-in (accepted q m) = m
-looks-in (refused q m) = m
-looks-in (stuck i m) = m
-looks-in (refusal n i) = zero
 
 -- ---- what each verdict means
 

@@ -20,7 +20,8 @@ use Rattle.model.proofs.SheetCode.{sheet-passes}
 use Rattle.model.proofs.Product.{joint-single, joint-takes, joint-accepts}
 use Rattle.model.proofs.JoinRange.{joint-in-range, joint-rule-count}
 use Rattle.model.proofs.SwapLaws.{swapped-in-range, swapped-accepts}
-use Rattle.model.proofs.Demand2.{Names, looks-in, verdict-names, verdict-accepts, verdict-two, looks-bound}
+use Rattle.model.specs.Answers.{looks-in}
+use Rattle.model.proofs.Demand2.{Names, verdict-names, verdict-accepts, verdict-two, looks-bound}
 
 -- ---- how "takes" and "accepts" are read
 

@@ -20,7 +20,8 @@ use Rattle.model.proofs.TreeLaws.{tree-passes}
 use Rattle.model.proofs.NameLaws.{few-names}
 use Rattle.model.proofs.ReadGood.{read-good}
 use Rattle.model.proofs.RoundTrip.{one-size, one-words, room-passes}
-use Rattle.model.proofs.Demand2.{Names, looks-in, verdict-names, verdict-accepts, verdict-two, verdict-two-at, verdict-stuck, verdict-stuck-at, looks-bound}
+use Rattle.model.specs.Answers.{looks-in}
+use Rattle.model.proofs.Demand2.{Names, verdict-names, verdict-accepts, verdict-two, verdict-two-at, verdict-stuck, verdict-stuck-at, looks-bound}
 
 -- The three inputs present a sheet and a form: no check before the run refuses them.
 pub record Presents (list file s : List ℕ) (t : Sheet) (e : Element) : Type 0 where

@@ -17,7 +17,8 @@ use Rattle.model.specs.Written.{written, writtenD, texts-checked}
 use Rattle.model.proofs.Tests.{Yes, never, same}
 use Rattle.model.proofs.CheckLaws.{refuses≢passes, passes-inj}
 use Rattle.model.proofs.DocumentLaws.{texts-good}
-use Rattle.model.proofs.Scan.{scan, scan-is}
+use Rattle.model.specs.Text.{scan}
+use Rattle.model.proofs.Scan.{scan-is}
 use Rattle.model.proofs.TextLaws.{Rest}
 use Rattle.model.proofs.Zipper.{At, Sound}
 use Rattle.model.proofs.ReadSteps.{not-stopped, keeps-sound}

@@ -18,7 +18,8 @@ use Rattle.model.proofs.ListLaws.{every-cons, every-append}
 use Rattle.model.proofs.Tests.{Yes, never, and-left, and-right, same}
 use Rattle.model.proofs.DocumentLaws.{followed, followed-ε, followed-behind, ends-in-text, GoodNodes, texts-good}
 use Rattle.model.proofs.NameLaws.{name-is, tag-of-name}
-use Rattle.model.proofs.RoundScan.{state, an-open, content-place, Scans, nothing, then, text-run, Listed, Leads, at-root, in-content, empty-run, full-run, form-read}
+use Rattle.model.specs.Text.{state, an-open}
+use Rattle.model.proofs.RoundScan.{content-place, Scans, nothing, then, text-run, Listed, Leads, at-root, in-content, empty-run, full-run, form-read}
 
 -- ---- checked text words
 

@@ -17,15 +17,9 @@ use Rattle.model.specs.Text.{Place, before, root-open, blank, in-text, t
 use Rattle.model.specs.Written.{text-byte, solid-byte, trimmed-text}
 use Rattle.model.proofs.ListLaws.{every-cons}
 use Rattle.model.proofs.Tests.{Yes, never, eqb-yes, eqb-false}
-use Rattle.model.proofs.Scan.{scan, scan-is}
+use Rattle.model.specs.Text.{state, an-open, scan}
+use Rattle.model.proofs.Scan.{scan-is}
 use Rattle.model.proofs.ByteLaws.{letter-class, name-cases, text-cases, name-cons, name-at-end, text-at-end, trimmed-cons}
-
--- a state; an open element
-abbrev pub state : Place → Document → List Open → ℕ → State
-state p c os n = record { place = p; content = c; opened = os; nodes = n }
-
-abbrev pub an-open : ℕ → Document → Open
-an-open a c = record { name = a; earlier = c }
 
 -- in content: behind a text, or with nothing but white since the last tag
 abbrev pub content-place : Bool → Place

@@ -11,14 +11,8 @@ use borrow.Author.Tests.{leb-true}
 use Rattle.model.specs.Answers.{Checked, passes, refuses, _>>_, require}
 use Rattle.model.specs.Tree.{Document}
 use Rattle.model.specs.Bytes.{class-of}
-use Rattle.model.specs.Text.{State, start, to, after, move, move-at, does, moved, state-at, refusal-2, refusal-3, refusal-4, refusal-5, refusal-6, refusal-7, number-at, first-refused, form-of}
+use Rattle.model.specs.Text.{State, start, to, after, move, move-at, does, moved, scan, state-at, refusal-2, refusal-3, refusal-4, refusal-5, refusal-6, refusal-7, number-at, first-refused, form-of}
 use Rattle.model.proofs.CheckLaws.{required}
-
-unfoldable pub scan : List ℕ → State → ℕ → List ℕ → Checked Document
-scan list st i [] = cond (does (to (st .place)) (to after)) (passes (st .content)) (refuses 3 i)
-scan list st i (b ∷ s) =
-    let next = scan list (moved list st i (b ∷ s) (move (st .place) (class-of b))) (suc i) s in
-    cond (eqb (number-at list st (b ∷ s)) 0) next (refuses (number-at list st (b ∷ s)) i)
 
 -- a place at which nothing is refused is gone on from; at any other the number refuses it
 then-left : (n i : ℕ) (r : Checked (Unit {0})) (d : Document) (next : Checked Document) → next ≡ (r >> passes d) → (b : Bool) → cond b next (refuses n i) ≡ (cond b r (refuses n i) >> passes d)

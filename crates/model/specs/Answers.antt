@@ -49,6 +49,14 @@ said-judgement (judgement.Refused q m) = refused q m
 said-judgement (judgement.Stuck i m) = stuck i m
 said-judgement (judgement.Error r) = said-refusal r
 
+-- the looks of a verdict
+abbrev pub looks-in : Said → ℕ
+looks-in (count n) = 0
+looks-in (accepted q m) = m
+looks-in (refused q m) = m
+looks-in (stuck i m) = m
+looks-in (refusal n i) = 0
+
 -- ---- checks
 
 -- A check passes with a value, or refuses with a number and a place.

@@ -212,3 +212,19 @@ form-of list s = do
   require (leb (length s) 65535) 1 65535
   first-refused (λ i. number-at list (state-at list s i) (drop i s)) (suc (length s)) 0
   passes (state-at list s (length s) .content)
+
+-- ---- the same in one pass
+
+-- a state; an open element
+abbrev pub state : Place → Document → List Open → ℕ → State
+state p c os n = record { place = p; content = c; opened = os; nodes = n }
+
+abbrev pub an-open : ℕ → Document → Open
+an-open a c = record { name = a; earlier = c }
+
+-- from a state and a place on, the first refusal, or the content at the end
+unfoldable pub scan : List ℕ → State → ℕ → List ℕ → Checked Document
+scan list st i [] = cond (does (to (st .place)) (to after)) (passes (st .content)) (refuses 3 i)
+scan list st i (b ∷ s) =
+    let next = scan list (moved list st i (b ∷ s) (move (st .place) (class-of b))) (suc i) s in
+    cond (eqb (number-at list st (b ∷ s)) 0) next (refuses (number-at list st (b ∷ s)) i)

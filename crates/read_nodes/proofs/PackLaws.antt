@@ -8,7 +8,7 @@ use lib.ListN.{length, getD, take, drop, set}
 use lib.Seq.{sets, sets-eq, length-sets, length-take-le, take-suc, take-at, drop-append-add, drop-set-add, drop-set-lt, take-set-le, take-add, drop-drop, drop-cons, getD-set-same, getD-set-other, lt-length-set}
 use Rattle.model.specs.Tree.{Span, Element, text, Document, ε, _·_, size, sizeD, node, words, wordsD}
 use Rattle.model.specs.Text.{Open, behind, tag-node}
-use Rattle.model.proofs.RoundScan.{an-open}
+use Rattle.model.specs.Text.{an-open}
 use Rattle.read_nodes.specs.Packed.{packed, unpacked, all-unpacked, Stands, OpenAt, Holds, outermost, inside}
 
 -- ---- packing

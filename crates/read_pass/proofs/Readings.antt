@@ -22,7 +22,7 @@ use Rattle.model.specs.declared.Refusal.the-variants.{UnknownName, OtherName, D
 use Rattle.model.proofs.Scan.{scan-is}
 use Rattle.model.proofs.Tests.{Yes, never, or-left, or-right, or-cases, same, eqb-yes}
 use Rattle.model.proofs.NameLaws.{bytes-same, tag-few}
-use Rattle.model.proofs.RoundScan.{state, an-open}
+use Rattle.model.specs.Text.{state, an-open}
 use Rattle.names.specs.Lines.{line-count, name-by}
 use Rattle.read_names.specs.Listing.{Listing}
 use Rattle.read_nodes.specs.Packed.{packed, unpacked, closed-words, closed-scan, Holds, outermost, inside}

@@ -18,8 +18,8 @@ use Rattle.model.specs.Names.{tag-of}
 use Rattle.model.specs.Text.{Place, after, root-open, tag-open, Move, to, opens, begins, names, closes, stops, moves, move, move-number, does, Open, State, name-at, moved, innermost, start-tag, refusal-2, refusal-3, refusal-4, refusal-5, refusal-6, refusal-7, number-at}
 use Rattle.model.proofs.Tests.{Yes}
 use Rattle.model.proofs.ListLaws.{every-∈, ∈-numbers}
-use Rattle.model.proofs.Scan.{scan}
-use Rattle.model.proofs.RoundScan.{state}
+use Rattle.model.specs.Text.{scan}
+use Rattle.model.specs.Text.{state}
 use Rattle.read_runs.specs.Runs.{run, first-class}
 use Rattle.read_scan.specs.Scans.{stop-number}
 use Rattle.read_runs.proofs.RunLaws.{here, byte-there, class-there, class-end}

@@ -18,8 +18,8 @@ use Rattle.model.specs.Text.{Place, before, root-open, blank, in-text, tag-open
 use Rattle.model.specs.Written.{text-byte}
 use Rattle.model.proofs.Tests.{Yes, never, between-inv}
 use Rattle.model.proofs.ByteLaws.{text-cases}
-use Rattle.model.proofs.Scan.{scan}
-use Rattle.model.proofs.RoundScan.{state, an-open}
+use Rattle.model.specs.Text.{scan}
+use Rattle.model.specs.Text.{state, an-open}
 use Rattle.read_runs.specs.Runs.{run, class-within, first-class}
 use Rattle.read_scan.specs.Scans.{stop-number}
 use Rattle.read_runs.proofs.RunLaws.{run-left, run-on, byte-there, class-there}

@@ -10,8 +10,8 @@ use Rattle.model.specs.Text.{Place, before, blank, Open, outside, form-of}
 use Rattle.model.specs.declared.Refusal.{Refusal}
 use Rattle.model.specs.declared.Answer.{Answer}
 use Rattle.model.specs.declared.Answer.the-variants.{Count, Error}
-use Rattle.model.proofs.Scan.{scan}
-use Rattle.model.proofs.RoundScan.{state}
+use Rattle.model.specs.Text.{scan}
+use Rattle.model.specs.Text.{state}
 use Rattle.names.specs.Lines.{line-count}
 use Rattle.read_nodes.specs.Packed.{all-unpacked, Holds}
 use Rattle.read_runs.specs.Runs.{first-class}
