@@ -6,7 +6,6 @@ ghost use lib.Dec.{eqb};
 ghost use lib.ListN.{length, getD, drop};
 ghost use Rattle.model.specs.Sheet.{W, bit, mask, members, «arc-of», signed};
 ghost use Rattle.model.specs.Words.{meets, «remainder-of»};
-use layout::MINUS_ONE;
 
 // numbers from here on are in no set
 const LIMIT: u32 = 64;
@@ -14,8 +13,10 @@ const LIMIT: u32 = 64;
 // the eight bits of a field of an arc word
 const FIELD: u32 = 0xFF;
 
-// the first word of a negative number; the last is that of −1
+// the first word of a negative number, in two's complement, and the last, which is that of −1
 const NEGATIVE: u32 = 0x8000_0000;
+
+const MINUS_ONE: u32 = 0xFFFF_FFFF;
 
 // Whether q is a member.
 pub fn has(set: u64, q: u32) -> bool

@@ -14,9 +14,6 @@ pub const OTHER_TEXT: u32 = 66;
 
 pub const MOST_NODES: usize = 4096;
 
-// the words of the largest tree
-pub const TREE_WORDS: usize = MOST_NODES * NODE_WORDS;
-
 // how deep elements lie at most, the root at depth 1
 pub const MOST_LEVELS: u32 = 32;
 
@@ -77,9 +74,6 @@ pub const AND: u32 = 4;
 pub const OR: u32 = 5;
 
 pub const MOST_STEPS: u32 = 32;
-
-// the two's complement word of −1
-pub const MINUS_ONE: u32 = 0xFFFF_FFFF;
 
 // ---- the index of a sheet: for each key of a rule its first rule, then an entry for each rule, and one after the last
 

@@ -15,7 +15,6 @@ use layout::MOST_NODES;
 use layout::MOST_WORDS;
 use layout::NODE_WORDS;
 use layout::TAGS;
-use layout::TREE_WORDS;
 use model::Answer;
 use model::Judgement;
 use model::Refusal;
@@ -45,7 +44,7 @@ fn judge_form(list: &[u8], names: usize, sheet: &[u32], text: &[u8]) -> Judgemen
     ensures { λ r. ⌜ ((file : List ℕ) → file-words file ≡ now (sheet .entry) →
         said-judgement r ≡ formcheck (now (list .entry)) file (now (text .entry))) ⌝ }
 {
-    let mut tree = [0u32; TREE_WORDS];
+    let mut tree = [0u32; MOST_NODES * NODE_WORDS];
     let mut states = [0u32; MOST_NODES];
     match reader::read(list, text, &mut tree) {
         Answer::Error(refusal) => Judgement::Error(refusal),
