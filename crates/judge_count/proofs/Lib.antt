@@ -1,0 +1,5 @@
+mod OccursLaws
+mod SignedLaws
+mod SumLaws
+mod StepLaws
+mod CountLaws

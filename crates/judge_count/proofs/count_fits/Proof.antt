@@ -1,0 +1,31 @@
+-- `judge_count::count_fits` meets its contract.
+use mathlib.Core.Path.{refl}
+use Prim.Native.Nat.{_-_}
+use native.Mathlib.Omega.{arith}
+use borrow.Author.Needs.{needs}
+use Rattle.judge_count.proofs.CountLaws.{StepsLeft, steps-there, steps-few, no-step, step-here, one-step, all-steps}
+use Rattle.judge_count.proofs.count_fits.Statement.{statement}
+use Rattle.judge_count.proofs.count_fits.Tie as tie
+
+abbrev Inv-loop : tie.InvT-loop
+Inv-loop part counts steps truths₀ at₀ i₀ truths at i = StepsLeft part counts steps truths at i
+
+abbrev μ-loop : tie.MeasureT-loop
+μ-loop part counts steps truths₀ at₀ i₀ truths at i = steps - i
+
+pub count-fits-spec : {M : Type 1} → statement M
+count-fits-spec =
+    tie.close
+    (tie.spec
+    Inv-loop
+    μ-loop
+    (λ c. steps-there (c .before .before .pre .0))
+    (λ c. no-step refl)
+    (λ c κs. let p = c .before .before .before .before .pre in (step-here (c .before .loop .inv) (c .loop-test .taken) (p .0) (p .1), p .1))
+    (λ c κs. search needs)
+    (λ c. omega (arith, steps-few (c .before .before .before .before .before .before .pre .0)))
+    (λ c. omega arith)
+    (λ c. one-step (c .before .before .before .loop .inv) _ (c .before .before .loop-test .taken) (c .before .step-at .ensures) (c .with-if .ensures))
+    (λ c. omega (arith, steps-few (c .before .before .before .before .pre .0)))
+    (λ c κs. search needs)
+    (λ c. all-steps (c .before .before .loop .inv) (c .before .loop-test .left) (c .has .ensures)))

@@ -1,0 +1,50 @@
+-- `judge_count::step_at` meets its contract.
+use mathlib.Core.Path.{refl}
+use mathlib.Core.Bool.{_&&_, _||_}
+use Prim.Native.Nat.{_+_, _<_}
+use native.Mathlib.Omega.{arith}
+use borrow.Author.Needs.{needs}
+use lib.ListN.{length}
+use Rattle.judge_count.proofs.StepLaws.{said, kind-there, no-kind, not-found, pair-found}
+use Rattle.judge_count.proofs.step_at.Statement.{statement}
+use Rattle.judge_count.proofs.step_at.Tie as tie
+
+-- the words behind the kind stand in the part
+not-room : (c : tie.At-match-keys3) → c .before .before .before .args .at + 1 < length (c .before .before .before .args .part .now)
+not-room c = said 3 (c .match .keys3) (c .before .before .before .pre .0) .room
+
+and-room : (c : tie.At-match-keys4) → c .before .before .before .args .at + 2 < length (c .before .before .before .args .part .now)
+and-room c = said 4 (c .match .keys4) (c .before .before .before .pre .0) .room
+
+or-room : (c : tie.At-match-keys5) → c .before .before .before .args .at + 2 < length (c .before .before .before .args .part .now)
+or-room c = said 5 (c .match .keys5) (c .before .before .before .pre .0) .room
+
+pub step-at-spec : {M : Type 1} → statement M
+step-at-spec =
+    tie.close
+    (tie.spec
+    (λ c. omega (arith, kind-there (c .before .pre .0)))
+    (λ c. kind-there (c .before .before .pre .0))
+    (λ c κs. search needs)
+    (λ c κs. search needs)
+    (λ c. omega (arith, not-room c))
+    (λ c κs. not-room c)
+    (λ c. omega (arith, not-room (c .before)))
+    (λ c. omega (arith, and-room c))
+    (λ c κs. omega (arith, and-room c))
+    (λ c. omega (arith, and-room (c .before)))
+    (λ c κs. and-room (c .before))
+    (λ c. omega (arith, and-room (c .before .before)))
+    (λ c. omega (arith, or-room c))
+    (λ c κs. omega (arith, or-room c))
+    (λ c. omega (arith, or-room (c .before)))
+    (λ c κs. or-room (c .before))
+    (λ c. omega (arith, or-room (c .before .before)))
+    (λ c earlier t. c .at-most .ensures earlier)
+    (λ c earlier t. c .remainder .ensures earlier)
+    (λ c earlier t h w o. not-found t w (c .truth-at .ensures) (said 3 (c .before .match .keys3) h))
+    (λ c earlier t h w o. pair-found t w _&&_ (c .before .truth-at2 .ensures) (c .truth-at3 .ensures) (said 4 (c .before .before .match .keys4) h))
+    (λ c earlier t h w o. pair-found t w _||_ (c .before .truth-at4 .ensures) (c .truth-at5 .ensures) (said 5 (c .before .before .match .keys5) h))
+    (λ c earlier t h w o.
+    let r = c .match .rest in
+    absurd (no-kind _ _ _ _ _ (said _ refl h) (r .0 .0 .0 .0 .1) (r .0 .0 .0 .1) (r .0 .0 .1) (r .0 .1) (r .1))))

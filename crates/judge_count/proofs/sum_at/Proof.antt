@@ -1,0 +1,62 @@
+-- `judge_count::sum_at` meets its contract.
+use mathlib.Core.Path.{_≡_, _∙_}
+use Prim.Native.Nat.{_<_}
+use native.Mathlib.Omega.{arith}
+use borrow.Author.Needs.{needs}
+use lib.ListN.{length, getD}
+use mir.Syntax.{w32}
+use mir.Val.{toZ, ofZ}
+use mir.Facts.{toZ-ofZ}
+use Rattle.model.specs.Sheet.{members, signed}
+use Rattle.judge_count.proofs.SumLaws.{SumLeft, marks-there, no-term, fewer-left, term-place, term-room, one-term, all-terms}
+use Rattle.judge_count.proofs.sum_at.Statement.{statement}
+use Rattle.judge_count.proofs.sum_at.Tie as tie
+
+abbrev Inv-loop : tie.InvT-loop
+Inv-loop part from counts marks₀ at₀ total₀ marks at total = SumLeft part counts from marks at (toZ w32 total)
+
+abbrev μ-loop : tie.MeasureT-loop
+μ-loop part from counts marks₀ at₀ total₀ marks at total = length (members 64 marks)
+
+-- the coefficient in hand stands in the part, and is a state's
+place : (c : tie.After-lowest Inv-loop μ-loop)
+    → (c .before .before .loop .at < length (c .before .before .before .before .before .before .before .args .part .now)) × (getD (members 64 (c .before .before .loop .marks)) 0 64 < 64)
+place c = let s = c .before .before .before .before .before .before .before in term-place (c .before .before .loop .inv) (c .before .loop-test .taken) (s .pre .0) (s .pre .1)
+
+-- the coefficient in hand, as the machine has it
+times-is : (c : tie.After-signed Inv-loop μ-loop)
+    → toZ w32 (ofZ w32 (c .signed .result)) ≡ signed (getD (c .before .before .before .before .before .before .before .before .before .args .part .now) (c .before .before .before .before .loop .at) 0)
+times-is c = toZ-ofZ (record { sfits = c .signed .ok }) ∙ c .signed .ensures
+
+pub sum-at-spec : {M : Type 1} → statement M
+sum-at-spec =
+    tie.close
+    (tie.spec
+    Inv-loop
+    μ-loop
+    (λ c. omega (arith, marks-there (c .before .pre .0)))
+    (λ c. omega (arith, marks-there (c .before .before .pre .0)))
+    (λ c. omega (arith, marks-there (c .before .before .pre .0)))
+    (λ c. omega (arith, marks-there (c .before .before .pre .0)))
+    (λ c. marks-there (c .before .before .before .pre .0))
+    (λ c κs. search needs)
+    (λ c. omega (arith, marks-there (c .before .before .before .before .pre .0)))
+    (λ c. no-term (c .before .before .before .before .pre .0) (c .of-words .ensures))
+    (λ c κs. search needs)
+    (λ c. search needs)
+    (λ c. omega (arith, place c .0))
+    (λ c. place (c .before) .0)
+    (λ c κs. search needs)
+    (λ c. omega (arith, c .before .before .lowest .ensures, place (c .before .before) .1))
+    (λ c. omega (arith, c .before .before .lowest .ensures, place (c .before .before) .1))
+    (λ c κs.
+    let s = c .before .before .before .before .before .before .before .before .before .before in
+    term-room (c .before .before .before .before .before .loop .inv) (c .before .before .before .before .loop-test .taken) (c .before .before .before .lowest .ensures) (times-is (c .before)) (s .pre .0) (s .pre .1))
+    (λ c. omega (arith, place (c .before .before .before .before) .0))
+    (λ c κs. search needs)
+    (λ c. fewer-left (c .before .before .before .before .before .before .before .loop .inv) (c .before .before .before .before .before .before .loop-test .taken) _ (c .without-lowest .ensures))
+    (λ c.
+    one-term (c .before .before .before .before .before .before .before .loop .inv) (c .before .before .before .before .before .before .loop-test .taken)
+    (c .before .before .before .before .before .lowest .ensures) (times-is (c .before .before .before))
+    (toZ-ofZ (record { sfits = c .before .plus-times .ok }) ∙ c .before .plus-times .ensures) (c .without-lowest .ensures) (c .without-lowest .ok))
+    (λ c. all-terms (c .before .loop .inv) (c .loop-test .left)))
