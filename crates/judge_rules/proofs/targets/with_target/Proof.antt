@@ -3,8 +3,8 @@ use mathlib.Core.Path.{sym, refl, _∙_}
 use mathlib.Core.Bool.{false}
 use borrow.Author.Needs.{needs}
 use Rattle.bits.proofs.BitLaws.{without-bit}
-use Rattle.judge.proofs.targets.with_target.Statement.{statement}
-use Rattle.judge.proofs.targets.with_target.Tie as tie
+use Rattle.judge_rules.proofs.targets.with_target.Statement.{statement}
+use Rattle.judge_rules.proofs.targets.with_target.Tie as tie
 
 pub with-target-spec : {M : Type 1} → statement M
 with-target-spec =

@@ -1,0 +1,4 @@
+mod KindLaws
+mod TargetLaws
+mod TryLaws
+pub mod ContentLaws

@@ -1,0 +1,54 @@
+-- `contents::try_all` meets its contract: so far the set and the looks are those of the rules before the i-th, which is of content.
+use mathlib.Core.Path.{refl}
+use Prim.Native.Nat.{_-_}
+use native.Mathlib.Omega.{arith}
+use borrow.Author.Needs.{needs}
+use Rattle.model.specs.Index.{rules-in}
+use Rattle.judge_order.specs.Order.{states-of}
+use Rattle.judge_rules.proofs.TargetLaws.{head-some, entry-small, entry-room, after-small, after-room, chain-nearer}
+use Rattle.judge_rules.proofs.TryLaws.{look-fits}
+use Rattle.judge_rules.proofs.ContentLaws.{Trying, trying-begun, ends-some, next-content, next-counted, looks-fit, trying-more, trying-ended}
+use Rattle.judge_rules.proofs.contents.try_all.Statement.{statement}
+use Rattle.judge_rules.proofs.contents.try_all.Tie as tie
+
+abbrev Inv-loop : tie.InvT-loop
+Inv-loop sheet index rules words counts targets₀ looks₀ i₀ targets looks i = Trying (rules-in sheet) (states-of words) i targets looks
+
+abbrev μ-loop : tie.MeasureT-loop
+μ-loop sheet index rules words counts targets₀ looks₀ i₀ targets looks i = rules - i
+
+pub try-all-spec : {M : Type 1} → statement M
+try-all-spec =
+    tie.close
+    (tie.spec
+    Inv-loop
+    μ-loop
+    (λ c. search (head-some, needs))
+    (λ c κs. search needs)
+    (λ c. search (trying-begun, needs))
+    (λ c. search (entry-small, needs))
+    (λ c. search (entry-room, needs))
+    (λ c. search (entry-room, needs))
+    (λ c κs. search needs)
+    (λ c. search needs)
+    (λ c. search (after-small, needs))
+    (λ c. search (after-room, needs))
+    (λ c. search (after-room, needs))
+    (λ c κs. search needs)
+    (λ c. search (ends-some, needs))
+    (λ c κs. ((search (next-content, needs), search (next-counted, needs)), search needs))
+    (λ c. search needs)
+    (λ c. search needs)
+    (λ c κs. search needs)
+    (λ c. search (look-fits, needs))
+    (λ c. search (looks-fit, needs))
+    (λ c. search (chain-nearer, needs))
+    (λ c.
+    let tried = c .before .before .before in
+    let after = tried .before .before in
+    let here = after .before .before in
+    let loop = here .before .before .before in
+    let start = loop .before .before .before .before .before .before in
+    trying-more (start .pre .0 .0) (start .pre .0 .1) (loop .loop .inv) (here .before .before .loop-test .taken) refl (here .entry-of .ensures .0) refl (after .entry-of2 .ensures .0)
+    (here .entry-of .ensures .1) (tried .try-rule .ensures) (c .before .with-if .ensures))
+    (λ c. search (trying-ended, needs)))

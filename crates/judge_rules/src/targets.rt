@@ -1,0 +1,60 @@
+// What the rules of kinds one and two give, as sets of target states.
+ghost use mathlib.Core.Path.{_≡_};
+ghost use mathlib.Core.Bool.{_&&_, _||_};
+ghost use Prim.Native.Nat.{_+_, _≤_, _<_};
+ghost use lib.Dec.{eqb};
+ghost use lib.ListN.{length, getD};
+ghost use Rattle.model.specs.Sheet.{bit, mask};
+ghost use Rattle.model.specs.Run.{text-targets};
+ghost use Rattle.model.specs.Index.{rules-in, Indexed};
+ghost use Rattle.bits.specs.Stands.{Stands};
+ghost use Rattle.judge_rules.specs.Rules.{TagReaches};
+use layout::ENTRIES;
+use parts::wide;
+
+// the keys of tags are after those of the kinds of texts
+const TEXT_KINDS: usize = 2;
+
+// The targets of the kind-one rules for a kind of text, along its chain; the sheet has `rules` rules.
+pub fn text_targets(sheet: &[u32], index: &[u32], rules: usize, kind: u32) -> u64
+    requires index { ⌜ Indexed (now sheet) (now index) × (rules ≡ length (rules-in (now sheet))) ⌝ }
+    requires kind { ⌜ (1 ≤ kind) × (kind ≤ 2) ⌝ }
+    ensures { λ r. ⌜ Stands r (text-targets (rules-in (now (sheet .entry))) kind) ⌝ }
+{
+    let mut targets: u64 = 0;
+    let mut i = wide(index[wide(kind)]);
+    while i < rules {
+        let entry = parts::entry_of(index[ENTRIES + i]);
+        targets = bits::with_if(true, targets, sheet[entry.begin + 2]);
+        i = entry.next;
+    }
+    targets
+}
+
+// The set with the target of the kind-two rule that begins at word `at`, if the rule's inner state is one of `inner`.
+fn with_target(sheet: &[u32], at: usize, inner: u64, targets: u64) -> u64
+    requires { ⌜ at + 3 < length (now sheet) ⌝ }
+    ensures { λ r. ⌜ r ≡ mask 64 (λ j. bit targets j || (bit inner (getD (now (sheet .entry)) (at + 2) 0) && eqb j (getD (now (sheet .entry)) (at + 3) 0))) ⌝ }
+{
+    // a branch: most rules of a tag have another inner state
+    if bits::has(inner, sheet[at + 2]) {
+        return bits::with_if(true, targets, sheet[at + 3]);
+    }
+    targets
+}
+
+// The targets of the kind-two rules for a tag whose content reaches the states of `inner`, along the tag's chain.
+pub fn tag_targets(sheet: &[u32], index: &[u32], rules: usize, tag: u32, inner: u64) -> u64
+    requires index { ⌜ Indexed (now sheet) (now index) × (rules ≡ length (rules-in (now sheet))) ⌝ }
+    requires tag { ⌜ (1 ≤ tag) × (tag ≤ 64) ⌝ }
+    ensures { λ r. ⌜ TagReaches (rules-in (now (sheet .entry))) tag inner r ⌝ }
+{
+    let mut targets: u64 = 0;
+    let mut i = wide(index[TEXT_KINDS + wide(tag)]);
+    while i < rules {
+        let rule = parts::entry_of(index[ENTRIES + i]);
+        targets = with_target(sheet, rule.begin, inner, targets);
+        i = rule.next;
+    }
+    targets
+}
