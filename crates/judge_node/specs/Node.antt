@@ -2,25 +2,19 @@
 use mathlib.Core.Path.{_≡_}
 use mathlib.Core.Bool.{cond}
 use mathlib.Core.List.{List, [], _∷_}
+use mathlib.Core.Option.{Option, none, some}
 use Prim.Native.Nat.{ℕ, zero, suc, _+_, _-_, _*_, _≤_, _<_}
 use lib.Dec.{ltb}
 use lib.ListN.{length, drop}
-use Rattle.model.specs.Answers.{passes}
-use Rattle.model.specs.Tree.{Element, size, symbol-at, size-at, tree-of}
+use Rattle.model.specs.Tree.{symbol-at, size-at}
 use Rattle.model.specs.Sheet.{Rule}
-use Rattle.judge.specs.Index.{sheet-in}
-use Rattle.model.specs.Run.{text-targets, element-targets, of-kind, element-looks, items, child-words, child-states}
+use Rattle.model.specs.Run.{text-targets, content-targets, element-targets, of-kind, tries, unless-one, element-looks, items, child-words, child-states}
 
--- the words of a form of n nodes, over the tags of the sheet s
-pub record Form (s tree : List ℕ) (n : ℕ) : Type 0 where
-  pub form : Element
-  pub as-tree : tree-of (sheet-in s .tags) tree ≡ passes form
-  pub nodes : size form ≡ n
-
--- n nodes, each of them with what is inside it
+-- n nodes, each of them with a symbol of a tag or a text and with what is inside it
 pub record Shaped (tree : List ℕ) (n : ℕ) : Type 0 where
   pub long : length tree ≡ 4 * n
   pub few : n ≤ 4096
+  pub symbols : (i : ℕ) → i < n → (1 ≤ symbol-at tree i) × (symbol-at tree i ≤ 66)
   pub sizes : (i : ℕ) → i < n → (1 ≤ size-at tree i) × (i + size-at tree i ≤ n)
 
 -- state words: at most 64 states, and 0
@@ -41,10 +35,21 @@ abbrev pub lone-states : ℕ → List ℕ
 lone-states zero = []
 lone-states (suc q) = q ∷ []
 
+-- what content reaches whose children have these states, and the looks for it; nothing where a child has none
+unfoldable pub inside-targets : List Rule → Option (List ℕ) → List ℕ
+inside-targets R none = []
+inside-targets R (some w) = content-targets R w
+
+unfoldable pub inside-looks : List Rule → Option (List ℕ) → ℕ
+inside-looks R none = 0
+inside-looks R (some w) = unless-one w (tries R w)
+
 -- the states that node i reaches, and the looks that it takes
 unfoldable pub node-targets : List Rule → (tree states : List ℕ) (i : ℕ) → List ℕ
 node-targets R tree states i =
-    cond (ltb 64 (symbol-at tree i)) (text-targets R (symbol-at tree i - 64)) (element-targets R (symbol-at tree i) (child-states (words-inside tree states i)))
+    cond (ltb 64 (symbol-at tree i)) (text-targets R (symbol-at tree i - 64))
+    (element-targets R (symbol-at tree i) (child-states (words-inside tree states i)))
 
 unfoldable pub node-looks : List Rule → (tree states : List ℕ) (i : ℕ) → ℕ
-node-looks R tree states i = cond (ltb 64 (symbol-at tree i)) (of-kind 1 R) (element-looks R (child-states (words-inside tree states i)))
+node-looks R tree states i =
+    cond (ltb 64 (symbol-at tree i)) (of-kind 1 R) (element-looks R (child-states (words-inside tree states i)))

@@ -1,11 +1,11 @@
--- `node::gather` meets its contract: so far the words are those of the children passed, and none of them is 0.
+-- `judge_node::gather` meets its contract: so far the words are those of the children passed, and none of them is 0.
 use Prim.Native.Nat.{_-_}
 use native.Mathlib.Omega.{arith}
 use borrow.Author.Needs.{needs}
 use lib.ListN.{length}
-use Rattle.judge.proofs.GatherLaws.{Gathering, gather-none, gather-done, gather-zero, gather-more}
-use Rattle.judge.proofs.node.gather.Statement.{statement}
-use Rattle.judge.proofs.node.gather.Tie as tie
+use Rattle.judge_node.proofs.GatherLaws.{Gathering, gather-none, gather-done, gather-zero, gather-more}
+use Rattle.judge_node.proofs.gather.Statement.{statement}
+use Rattle.judge_node.proofs.gather.Tie as tie
 
 abbrev Inv-loop : tie.InvT-loop
 Inv-loop tree states first end words₀ n₀ at₀ words n at = Gathering tree states first end (length words₀) words n at

@@ -3,20 +3,25 @@ use mathlib.Core.Path.{_≡_, refl, sym, ap, _∙_, subst}
 use mathlib.Core.Bool.{Bool, true, false, _||_, or-assoc, or-true}
 use mathlib.Core.List.{List, [], _∷_, _++_, append-assoc, append-nil}
 use Prim.Native.Nat.{ℕ, _+_, _≤_, _<_}
+use native.Mathlib.Numerals.{add-one}
 use native.Mathlib.Omega.{arith}
 use lib.Dec.{eqb}
 use lib.ListN.{length, getD, take, set, length-set}
+use lib.Seq.{take-suc-set}
 use Rattle.model.specs.Lists.{has}
 use Rattle.model.specs.Tree.{size-at}
 use Rattle.model.proofs.Tests.{eqb-false}
-use Rattle.judge.specs.Node.{Shaped, words-between}
-use Rattle.judge.specs.Gathered.{Gathered}
-use Rattle.judge.specs.declared.node.Children.{Children}
-use Rattle.judge.specs.declared.node.Children.the-variants.{Stateless, Number}
-use Rattle.judge.proofs.WordLaws.{take-stored}
-use Rattle.judge.proofs.NodeLaws.{words-done, words-more}
+use Rattle.judge_node.specs.Node.{Shaped, words-between}
+use Rattle.judge_node.specs.Judging.{Gathered}
+use Rattle.judge_node.specs.declared.Children.{Children}
+use Rattle.judge_node.specs.declared.Children.the-variants.{Stateless, Number}
+use Rattle.judge_node.proofs.NodeLaws.{words-done, words-more}
 
-pub has-append : (l m : List ℕ) (q : ℕ) → has (l ++ m) q ≡ (has l q || has m q)
+-- the front of a list that is filled, with one word more
+take-stored : (l : List ℕ) (n x : ℕ) → n < length l → take (n + 1) (set l n x) ≡ take n l ++ (x ∷ [])
+take-stored l n x h = rw (add-one n) (take-suc-set l n x h)
+
+has-append : (l m : List ℕ) (q : ℕ) → has (l ++ m) q ≡ (has l q || has m q)
 unfolding has
 has-append [] m q = refl
 has-append (x ∷ l) m q = ap (λ (b : Bool). eqb q x || b) (has-append l m q) ∙ sym (or-assoc (eqb q x) (has l q) (has m q))

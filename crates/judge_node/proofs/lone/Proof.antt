@@ -1,9 +1,9 @@
--- `node::lone` meets its contract: the child has no state, or one.
+-- `judge_node::lone` meets its contract: the child has no state, or one.
 use native.Mathlib.Omega.{arith}
 use borrow.Author.Needs.{needs}
-use Rattle.judge.proofs.ElementLaws.{lone-stateless, lone-state}
-use Rattle.judge.proofs.node.lone.Statement.{statement}
-use Rattle.judge.proofs.node.lone.Tie as tie
+use Rattle.judge_node.proofs.InsideLaws.{lone-stateless, lone-state}
+use Rattle.judge_node.proofs.lone.Statement.{statement}
+use Rattle.judge_node.proofs.lone.Tie as tie
 
 pub lone-spec : {M : Type 1} → statement M
 lone-spec =

@@ -9,12 +9,12 @@ use native.Mathlib.Omega.{arith}
 use lib.Dec.{ltb}
 use lib.ListN.{length, getD, drop, length-drop}
 use lib.Seq.{drop-cons, drop-drop}
-use Rattle.model.specs.Tree.{Element, text, tag, Document, ε, _·_, size, sizeD, words, wordsD, symbol-at, size-at, tree-of}
+use Rattle.model.specs.Tree.{Element, text, tag, Document, ε, _·_, size, sizeD, words, wordsD, is-text, Keeps, KeepsD, symbol-at, size-at, tree-of}
 use Rattle.model.specs.Sheet.{Rule}
 use Rattle.model.specs.Run.{text-targets, element-targets, of-kind, element-looks, gist, Item, items, child-words, child-states, ran, put, judge-text, judge-element, judge-node}
 use Rattle.model.specs.Answers.{passes}
 use Rattle.model.proofs.TreeLaws.{length-words, tree-passes}
-use Rattle.judge.specs.Node.{Shaped, words-between, words-inside, node-targets, node-looks}
+use Rattle.judge_node.specs.Node.{Shaped, words-between, words-inside, node-targets, node-looks}
 
 -- ---- nodes by their words
 
@@ -42,15 +42,15 @@ length-items n (a ∷ b ∷ c ∷ []) h = absurd (omega arith)
 length-items zero (a ∷ b ∷ c ∷ d ∷ t) h = absurd (omega arith)
 length-items (suc n) (a ∷ b ∷ c ∷ d ∷ t) h = ap suc (length-items n t (omega arith))
 
--- each item has a size, and ends within the list
+-- each item has a symbol of a tag or a text and a size, and ends within the list
 abbrev Within : List Item → Type 0
 Within [] = Unit {0}
-Within (x ∷ xs) = (1 ≤ x .size) × (x .size ≤ suc (length xs)) × Within xs
+Within (x ∷ xs) = ((1 ≤ x .symbol) × (x .symbol ≤ 66)) × (1 ≤ x .size) × (x .size ≤ suc (length xs)) × Within xs
 
 within-drop : (i : ℕ) (l : List Item) → Within l → Within (drop i l)
 within-drop zero l h = h
 within-drop (suc i) [] h = h
-within-drop (suc i) (x ∷ l) (a, b, h) = within-drop i l h
+within-drop (suc i) (x ∷ l) (a, b, c, h) = within-drop i l h
 
 -- so it is with the items of an element's words in front of others
 mutual
@@ -67,25 +67,28 @@ mutual
 mutual
   unfolding words size items
 
-  within : (e : Element) (t : List ℕ) → Within (items t) → Within (items (words e ++ t))
-  within (text k w) t h = (omega arith, omega arith, h)
-  within (tag a w d) t h = (omega arith, omega (arith, items-moreD d t), withinD d t h)
+  within : {g : ℕ} (levels : ℕ) (e : Element) (t : List ℕ) → g ≤ 64 → Keeps g levels e → Within (items t) → Within (items (words e ++ t))
+  within levels (text k w) t few (l, m) h = ((omega arith, omega arith), omega arith, omega arith, h)
+  within levels (tag a w d) t few (l, m, _, k) h = ((l, omega arith), omega arith, omega (arith, items-moreD d t), withinD (levels - 1) false d t few k h)
 
-  withinD : (d : Document) (t : List ℕ) → Within (items t) → Within (items (wordsD d ++ t))
-  withinD ε t h = h
-  withinD (e · d) t h = rw (append-assoc (words e) (wordsD d) t) (within e (wordsD d ++ t) (withinD d t h))
+  withinD : {g : ℕ} (levels : ℕ) (after-text : Bool) (d : Document) (t : List ℕ) → g ≤ 64 → KeepsD g levels after-text d → Within (items t)
+      → Within (items (wordsD d ++ t))
+  withinD levels after-text ε t few k h = h
+  withinD levels after-text (e · d) t few (_, k, m) h =
+      rw (append-assoc (words e) (wordsD d) t) (within levels e (wordsD d ++ t) few k (withinD levels (is-text e) d t few m h))
 
 pub tree-shaped : {g : ℕ} {t : List ℕ} {e : Element} → g ≤ 64 → tree-of g t ≡ passes e → Shaped t (size e)
 unfolding items
 tree-shaped {g} {t} {e} few p =
     let (w, o) = tree-passes g few t e .0 p in
     let long : length t ≡ 4 * size e = ap length w ∙ length-words e in
-    let all : Within (items t) = rw (append-nil (words e), ← w) at (within e [] tt) in
+    let all : Within (items t) = rw (append-nil (words e), ← w) at (within 32 e [] few (o .keeps) tt) in
     record {
       long = long;
       few = o .few;
+      symbols = λ i h. (rw (items-at t i (omega arith)) at (within-drop i (items t) all)) .0;
       sizes = λ i h.
-          let (a, b, _) = rw (items-at t i (omega arith)) at (within-drop i (items t) all) in
+          let (_, a, b, _) = rw (items-at t i (omega arith)) at (within-drop i (items t) all) in
           (a, omega (arith, b, length-drop (i + 1) (items t), length-items (size e) t long));
     }
 

@@ -1,0 +1,258 @@
+-- What is inside a node: no child, one child or several, and what its content reaches. A node, text or element, by that.
+use mathlib.Core.Path.{_≡_, refl, sym, ap, _∙_}
+use mathlib.Core.Logic.{_≢_}
+use mathlib.Core.Bool.{Bool, true, false, cond, _&&_, _||_, and-false}
+use mathlib.Core.List.{List, [], _∷_, flatMap}
+use mathlib.Core.Option.{Option, none, some}
+use Prim.Native.Nat.{ℕ, zero, suc, _+_, _-_, _*_, _^_, _≤_, _<_}
+use native.Mathlib.Omega.{arith}
+use lib.Dec.{eqb, eqb·zero-suc}
+use lib.ListN.{length, getD, take, drop}
+use lib.Seq.{length-take-le}
+use borrow.Author.Tests.{lt-ltb, le-ltb}
+use mir.Syntax.{w64}
+use mir.Val.{Fits}
+use Rattle.model.specs.Lists.{has, only}
+use Rattle.model.specs.Tree.{symbol-at, size-at}
+use Rattle.model.specs.Sheet.{Rule, one, two, three, mask, bit}
+use Rattle.model.specs.Run.{at-tag, text-targets, content-targets, element-targets, kind, of-kind, unless-one, unless-none, element-looks, Item, items, child-words, child-states}
+use Rattle.model.specs.Index.{rules-in, Indexed}
+use Rattle.model.proofs.Tests.{never}
+use Rattle.model.proofs.PassedLaws.{in-range}
+use Rattle.bits.specs.Stands.{Stands}
+use Rattle.bits.proofs.SetLaws.{none-stands, stands-none, stands-some, gathers-none, gathers-more, gathers-all}
+use Rattle.judge_order.specs.Order.{StateWords, states-of}
+use Rattle.judge_rules.specs.Rules.{RulesOf, TagReaches}
+use Rattle.judge_rules.specs.Found.{Finds, FindsContent}
+use Rattle.judge_rules.specs.declared.numbers.Rules.{Rules}
+use Rattle.judge_rules.specs.declared.contents.Found.{Found}
+use Rattle.judge_node.specs.Node.{Shaped, Small, words-between, words-inside, lone-states, inside-targets, inside-looks, node-targets, node-looks}
+use Rattle.judge_node.specs.Judging.{Gathered, Judging, FindsInside, TagFinds, FindsNode}
+use Rattle.judge_node.specs.declared.At.{At}
+use Rattle.judge_node.specs.declared.Children.{Children}
+use Rattle.judge_node.specs.declared.Children.the-variants.{Stateless, Number}
+use Rattle.judge_node.proofs.NodeLaws.{words-done, words-more}
+use Rattle.judge_node.proofs.GatherLaws.{all-gathered, none-gathered}
+
+-- ---- the children's state words
+
+-- they are among the words that stand there, and at most as many as the nodes
+words-small : (n k : ℕ) (xs : List Item) (st : List ℕ) → Small st → Small (child-words n k xs st)
+unfolding child-words
+words-small zero k xs st h = tt
+words-small (suc n) k [] st h = tt
+words-small (suc n) k (x ∷ xs) [] h = tt
+words-small (suc n) zero (x ∷ xs) (s ∷ st) (l, h) = (l, words-small n (x .size - 1) xs st h)
+words-small (suc n) (suc k) (x ∷ xs) (s ∷ st) (l, h) = words-small n k xs st h
+
+words-few : (n k : ℕ) (xs : List Item) (st : List ℕ) → length (child-words n k xs st) ≤ n
+unfolding child-words
+words-few zero k xs st = omega arith
+words-few (suc n) k [] st = omega arith
+words-few (suc n) k (x ∷ xs) [] = omega arith
+words-few (suc n) zero (x ∷ xs) (s ∷ st) = omega (arith, words-few n (x .size - 1) xs st)
+words-few (suc n) (suc k) (x ∷ xs) (s ∷ st) = omega (arith, words-few n k xs st)
+
+-- a list of state words without 0
+each-word : (ws : List ℕ) → Small ws → has ws 0 ≡ false → (k : ℕ) → k < length ws → (1 ≤ getD ws k 0) × (getD ws k 0 ≤ 64)
+unfolding has
+each-word [] s f k h = absurd (omega arith)
+each-word (zero ∷ ws) s f k h = never (sym f)
+each-word (suc x ∷ ws) (l, s) f zero h = (omega arith, l)
+each-word (suc x ∷ ws) (l, s) f (suc k) h = each-word ws s (rw (eqb·zero-suc x) at f) k (omega arith)
+
+small-at : (states : List ℕ) (k : ℕ) → Small (drop k states) → getD states k 0 ≤ 64
+small-at [] k h = omega arith
+small-at (x ∷ states) zero (l, h) = l
+small-at (x ∷ states) (suc k) h = small-at states k h
+
+-- all have states, or one has none
+states-some : (ws : List ℕ) → has ws 0 ≡ false → child-states ws ≡ some (states-of ws)
+unfolding child-states has states-of
+states-some [] f = refl
+states-some (zero ∷ ws) f = never (sym f)
+states-some (suc q ∷ ws) f = let e : suc q - 1 ≡ q = omega arith in rw (states-some ws (rw (eqb·zero-suc q) at f), e)
+
+states-none : (ws : List ℕ) → has ws 0 ≡ true → child-states ws ≡ none
+unfolding child-states has
+states-none [] f = never f
+states-none (zero ∷ ws) f = refl
+states-none (suc q ∷ ws) f = rw (states-none ws (rw (eqb·zero-suc q) at f))
+
+-- nothing is reached, without a look
+pub nothing-found : {limit : ℕ} → Finds limit (record { targets = 0; looks = 0 }) [] 0
+nothing-found = record { reached = none-stands; number = refl; few = omega arith }
+
+-- one child: its state word, and the states that it makes
+pub lone-stateless : {word : ℕ} → word ≡ 0 → Finds (2 ^ 42) (record { targets = 0; looks = 0 }) (lone-states word) 0
+lone-stateless e = rw e nothing-found
+
+pub lone-state : (word : ℕ) {r : ℕ} → word ≢ 0 → word ≤ 64 → r ≡ mask 64 (λ j. bit 0 j || (true && eqb j (word - 1)))
+    → Finds (2 ^ 42) (record { targets = r; looks = 0 }) (lone-states word) 0
+unfolding only
+lone-state zero n h m = absurd (n refl)
+lone-state (suc q) n h m =
+    let e : suc q - 1 ≡ q = omega arith in
+    record { reached = gathers-all (gathers-more true q (omega arith) (rw e at m) (gathers-none (q ∷ []))); number = refl; few = omega arith }
+
+-- ---- what is inside a node
+
+module _ {s index : List ℕ} {at : At} {tree states words : List ℕ} (j : Judging s index at tree states words) where
+  abbrev i : ℕ
+  i = at .node
+
+  abbrev R : List Rule
+  R = rules-in s
+
+  module _ {size : ℕ} (e : size ≡ size-at tree i) where
+    pub end-within : i + size ≤ length states
+    end-within = omega (arith, j .shaped .sizes i (j .node))
+
+    pub end-fits : Fits w64 (i + size)
+    end-fits = record { fits = omega (arith, end-within, j .shaped .few) }
+
+    -- no child
+    pub leaf-inside : size ≡ 1 → FindsInside R tree states i (at .nothing)
+    unfolding inside-targets inside-looks child-words child-states
+    leaf-inside alone =
+        let none : i + size-at tree i - (i + 1) ≡ 0 = omega arith in
+        rw none (j .nothing)
+
+    -- where an element is more than one node, there is a first child
+    module _ (more : size ≢ 1) where
+      some-inside : i + 1 < i + size
+      some-inside = omega (arith, j .shaped .sizes i (j .node))
+
+      pub child-there : i + 1 < length states
+      child-there = omega (arith, some-inside, end-within)
+
+      child-within : i + 1 + size-at tree (i + 1) ≤ length states
+      child-within = j .shaped .sizes (i + 1) child-there .1
+
+      pub child-room : 4 * (i + 1 + 1) ≤ length tree
+      child-room = omega (arith, child-there, j .shaped .long)
+
+      pub child-small : getD states (i + 1) 0 ≤ 64
+      child-small = small-at states (i + 1) (j .small)
+
+      module _ {z : ℕ} (ez : z ≡ size-at tree (i + 1)) where
+        pub child-fits : Fits w64 (i + 1 + z)
+        child-fits = record { fits = omega (arith, child-within, j .shaped .few) }
+
+        -- one child
+        pub lone-inside : i + size ≤ i + 1 + z → {f : Found} → Finds (2 ^ 42) f (lone-states (getD states (i + 1) 0)) 0 → FindsInside R tree states i f
+        unfolding inside-targets inside-looks content-targets child-states
+        lone-inside only f =
+            rw (← e, words-more states (j .shaped) refl (i + 1) (i + size) some-inside end-within)
+            (rw (words-done states (j .shaped) refl (i + 1 + size-at tree (i + 1)) (i + size) (omega arith)) (go (getD states (i + 1) 0) f))
+          where
+            go : (word : ℕ) {f : Found} → Finds (2 ^ 42) f (lone-states word) 0
+                → Finds (2 ^ 42) f (inside-targets R (child-states (word ∷ []))) (inside-looks R (child-states (word ∷ [])))
+            go zero f = f
+            go (suc q) f = f
+
+        -- several children
+        several-words : i + 1 + z < i + size → length (words-between tree states (i + 1) (i + size)) ≢ 1
+        several-words several =
+            let next = i + 1 + size-at tree (i + 1) in
+            rw (words-more states (j .shaped) refl (i + 1) (i + size) some-inside end-within, words-more states (j .shaped) refl next (i + size) (omega arith) end-within)
+            (λ e. absurd (omega arith))
+
+    module _ {children : Children} (left : List ℕ) (got : Gathered children (words-between tree states (i + 1) (i + size)) left) where
+      -- one of them has no state
+      pub stateless-inside : children ≡ Stateless → FindsInside R tree states i (record { targets = 0; looks = 0 })
+      unfolding inside-targets inside-looks
+      stateless-inside is = rw (← e, states-none (words-between tree states (i + 1) (i + size)) (none-gathered _ left got is)) nothing-found
+
+      -- all of them have one
+      module _ {n : ℕ} (is : children ≡ Number n) where
+        pub gathered-within : n ≤ length left
+        gathered-within = all-gathered _ left got is .1
+
+        pub gathered-words : size ≢ 1 → {z : ℕ} → z ≡ size-at tree (i + 1) → i + 1 + z < i + size → StateWords (take n left) × (length (take n left) ≢ 1)
+        gathered-words more ez several =
+            let (same, _, full) = all-gathered _ left got is in
+            let small = words-small (i + size - (i + 1)) 0 (drop (i + 1) (items tree)) (drop (i + 1) states) (j .small) in
+            let few = words-few (i + size - (i + 1)) 0 (drop (i + 1) (items tree)) (drop (i + 1) states) in
+            let each = each-word (words-between tree states (i + 1) (i + size)) small full in
+            rw same (record { each = each; few = omega (arith, few, end-within, j .shaped .few) }, several-words more ez several)
+
+        pub several-inside : {f : Found} → FindsContent R (states-of (take n left)) f → FindsInside R tree states i f
+        unfolding inside-targets inside-looks
+        several-inside f =
+            let (same, _, full) = all-gathered _ left got is in
+            rw (← e, states-some (words-between tree states (i + 1) (i + size)) full) (rw same at f)
+
+-- ---- an element, by what its content reaches
+
+-- nothing is reached from no state
+no-tag : (a : ℕ) (R : List Rule) → flatMap (at-tag a []) R ≡ []
+unfolding flatMap at-tag only has
+no-tag a [] = refl
+no-tag a (one k q ∷ R) = no-tag a R
+no-tag a (two b c q ∷ R) = rw (and-false (eqb b a)) (no-tag a R)
+no-tag a (three o c q ∷ R) = no-tag a R
+
+of-kind-few : (k : ℕ) (R : List Rule) → of-kind k R ≤ length R
+unfolding of-kind
+of-kind-few k [] = omega arith
+of-kind-few k (r ∷ R) = go (eqb (kind r) k) (of-kind-few k R)
+  where
+    go : (b : Bool) → of-kind k R ≤ length R → cond b 1 0 + of-kind k R ≤ suc (length R)
+    go true h = omega arith
+    go false h = omega arith
+
+module _ {s index : List ℕ} (h : Indexed s index) {r : Rules} (k : RulesOf s r) where
+  kind-few : (n : ℕ) → of-kind n (rules-in s) ≤ 1024
+  kind-few n = omega (arith, of-kind-few n (rules-in s), in-range (h .sheet) .few-rules)
+
+  pub twos-fit : {n : ℕ} → n ≤ 2 ^ 42 → Fits w64 (n + r .twos)
+  twos-fit l = record { fits = omega (arith, k .tags, kind-few 2) }
+
+  -- the content reaches no state
+  pub tagged-unreached : (tag : ℕ) {inside : Found} → inside .targets ≡ 0 → TagFinds (rules-in s) tag inside (record { targets = 0; looks = inside .looks })
+  tagged-unreached tag e = record {
+    found = λ l n f.
+        let none = stands-none (f .reached) e in
+        rw (none, no-tag tag (rules-in s)) (record { reached = none-stands; number = omega (arith, f .number); few = omega (arith, f .few) });
+  }
+
+  -- it reaches some
+  pub tagged-reached : {tag targets : ℕ} {inside : Found} → inside .targets ≢ 0 → TagReaches (rules-in s) tag (inside .targets) targets
+      → TagFinds (rules-in s) tag inside (record { targets = targets; looks = inside .looks + r .twos })
+  tagged-reached some-state reach = record {
+    found = λ l n f.
+        let (x, xs, e) = stands-some (f .reached) some-state in
+        record {
+          reached = reach .reached l (f .reached);
+          number = rw e (omega (arith, f .number, k .tags));
+          few = omega (arith, f .few, k .tags, kind-few 2);
+        };
+  }
+
+-- ---- a node, by its symbol
+
+module _ {s index : List ℕ} {at : At} {tree states words : List ℕ} (j : Judging s index at tree states words) where
+  pub text-kind : 64 < symbol-at tree (at .node) → (1 ≤ symbol-at tree (at .node) - 64) × (symbol-at tree (at .node) - 64 ≤ 2)
+  text-kind l = omega (arith, j .shaped .symbols (at .node) (j .node))
+
+  pub text-found : 64 < symbol-at tree (at .node) → {targets : ℕ} → Stands targets (text-targets (rules-in s) (symbol-at tree (at .node) - 64))
+      → FindsNode (rules-in s) tree states (at .node) (record { targets = targets; looks = at .rules .ones })
+  unfolding node-targets node-looks
+  text-found l r =
+      rw (lt-ltb 64 (symbol-at tree (at .node)) l)
+      (record { reached = r; number = j .rules .texts; few = omega (arith, j .rules .texts, kind-few (j .indexed) (j .rules) 1) })
+
+  pub tag-within : symbol-at tree (at .node) ≤ 64 → {inside : Found} → FindsInside (rules-in s) tree states (at .node) inside
+      → (1 ≤ symbol-at tree (at .node)) × (symbol-at tree (at .node) ≤ 64) × (inside .looks ≤ 2 ^ 42)
+  tag-within l f = (j .shaped .symbols (at .node) (j .node) .0, l, f .few)
+
+  pub element-found : symbol-at tree (at .node) ≤ 64 → {inside f : Found} → FindsInside (rules-in s) tree states (at .node) inside
+      → TagFinds (rules-in s) (symbol-at tree (at .node)) inside f → FindsNode (rules-in s) tree states (at .node) f
+  unfolding node-targets node-looks inside-targets inside-looks element-targets element-looks
+  element-found l {inside} {f} h t = rw (le-ltb 64 (symbol-at tree (at .node)) l) (go (child-states (words-inside tree states (at .node))) h)
+    where
+      go : (ws : Option (List ℕ)) → Finds (2 ^ 42) inside (inside-targets (rules-in s) ws) (inside-looks (rules-in s) ws)
+          → Finds (2 ^ 43) f (element-targets (rules-in s) (symbol-at tree (at .node)) ws) (element-looks (rules-in s) ws)
+      go none h = rw (no-tag (symbol-at tree (at .node)) (rules-in s)) at (t .found [] 0 h)
+      go (some w) h = t .found _ _ h

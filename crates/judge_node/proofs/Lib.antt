@@ -1,0 +1,3 @@
+pub mod NodeLaws
+mod GatherLaws
+mod InsideLaws

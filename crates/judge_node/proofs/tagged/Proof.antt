@@ -1,0 +1,14 @@
+-- `judge_node::tagged` meets its contract: content that reaches no state, and content that reaches some.
+use borrow.Author.Needs.{needs}
+use Rattle.judge_node.proofs.InsideLaws.{twos-fit, tagged-unreached, tagged-reached}
+use Rattle.judge_node.proofs.tagged.Statement.{statement}
+use Rattle.judge_node.proofs.tagged.Tie as tie
+
+pub tagged-spec : {M : Type 1} → statement M
+tagged-spec =
+    tie.close
+    (tie.spec
+    (λ c. search (tagged-unreached, needs))
+    (λ c κs. search needs)
+    (λ c. search (twos-fit, needs))
+    (λ c. search (tagged-reached, needs)))

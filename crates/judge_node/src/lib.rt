@@ -1,0 +1,149 @@
+// A node: the states that it reaches, and the looks that it takes.
+ghost use Prim.Native.Nat.{_+_, _*_, _^_, _≤_};
+ghost use mathlib.Core.Path.{_≡_};
+ghost use lib.ListN.{length};
+ghost use Rattle.model.specs.Tree.{size-at};
+ghost use Rattle.model.specs.Index.{rules-in, Indexed};
+ghost use Rattle.judge_rules.specs.Rules.{RulesOf};
+ghost use Rattle.judge_rules.specs.Found.{Finds};
+ghost use Rattle.judge_node.specs.Node.{Shaped, words-between, lone-states};
+ghost use Rattle.judge_node.specs.Judging.{Gathered, TagFinds, Judging, FindsInside, FindsNode};
+use judge_rules::Found;
+use judge_rules::Rules;
+use judge_rules::content;
+use judge_rules::tag_targets;
+use judge_rules::text_targets;
+use layout::MOST_TAGS;
+use layout::NODE_WORDS;
+use parts::wide;
+
+// The children of a node: one of them has no state, or all of them have one, and this is their number.
+enum Children {
+    Stateless,
+    Number(usize),
+}
+
+// A node by its number, the numbers of the sheet's rules, and what content without children reaches.
+pub struct At {
+    pub node: usize,
+    pub rules: Rules,
+    pub nothing: Found,
+}
+
+// The number of nodes that node i and what is inside it make.
+fn size_at(tree: &[u32], i: usize) -> usize
+    requires { ⌜ 4 * (i + 1) ≤ length (now tree) ⌝ }
+    ensures { λ r. ⌜ r ≡ size-at (now (tree .entry)) i ⌝ }
+{
+    wide(tree[NODE_WORDS * i + 1])
+}
+
+// The state words of the elements side by side from node `first` up to node `end`, to the front of `words`.
+fn gather(tree: &[u32], states: &[u32], first: usize, end: usize, words: &mut [u32]) -> Children
+    requires tree { ⌜ Shaped (now tree) (length (now states)) ⌝ }
+    requires room { ⌜ (end ≤ length (now states)) × (length (now states) ≤ length (now words)) ⌝ }
+    ensures { λ r. ⌜ Gathered r (words-between (now (tree .entry)) (now (states .entry)) first end) (now (words .exit)) ⌝ }
+{
+    let mut n = 0;
+    let mut at = first;
+    while at < end {
+        let word = states[at];
+        if word == 0 {
+            return Children::Stateless;
+        }
+        words[n] = word;
+        n += 1;
+        at += size_at(tree, at);
+    }
+    Children::Number(n)
+}
+
+// What content of one child reaches, by that child's state word: the child's state, and no rule is tried.
+fn lone(word: u32) -> Found
+    requires { ⌜ word ≤ 64 ⌝ }
+    ensures { λ f. ⌜ Finds (2 ^ 42) f (lone-states word) 0 ⌝ }
+{
+    if word == 0 {
+        return Found {
+            targets: 0,
+            looks: 0,
+        };
+    }
+    Found {
+        targets: bits::with_if(true, 0, word - 1),
+        looks: 0,
+    }
+}
+
+// What the content of a node reaches: no child, one, or several; nothing where a child has no state. `words` is lent to gather in.
+fn inside(
+    sheet: &[u32],
+    index: &[u32],
+    at: At,
+    tree: &[u32],
+    states: &[u32],
+    words: &mut [u32],
+) -> Found
+    requires { ⌜ Judging (now sheet) (now index) at (now tree) (now states) (now words) ⌝ }
+    ensures { λ f. ⌜ FindsInside (rules-in (now (sheet .entry))) (now (tree .entry)) (now (states .entry)) (at .node) f ⌝ }
+{
+    let i = at.node;
+    let size = size_at(tree, i);
+    if size == 1 {
+        return at.nothing;
+    }
+    let first = i + 1;
+    let end = i + size;
+    if end <= first + size_at(tree, first) {
+        return lone(states[first]);
+    }
+    let Children::Number(n) = gather(tree, states, first, end, words) else {
+        return Found {
+            targets: 0,
+            looks: 0,
+        };
+    };
+    content(sheet, index, at.rules, &words[..n])
+}
+
+// What content reaches in an element with a tag: the kind-two rules are looked at where the content reaches a state.
+fn tagged(sheet: &[u32], index: &[u32], rules: Rules, tag: u32, inside: Found) -> Found
+    requires index { ⌜ Indexed (now sheet) (now index) × RulesOf (now sheet) rules ⌝ }
+    requires tag { ⌜ (1 ≤ tag) × (tag ≤ 64) × (inside .looks ≤ 2 ^ 42) ⌝ }
+    ensures { λ f. ⌜ TagFinds (rules-in (now (sheet .entry))) tag inside f ⌝ }
+{
+    let inner = inside.targets;
+    let looks = inside.looks;
+    if inner == 0 {
+        return Found { targets: 0, looks };
+    }
+    Found {
+        targets: tag_targets(sheet, index, rules.number, tag, inner),
+        looks: looks + rules.twos,
+    }
+}
+
+// The states that a node reaches, a text or an element. `words` is lent to gather in.
+pub fn node(
+    sheet: &[u32],
+    index: &[u32],
+    at: At,
+    tree: &[u32],
+    states: &[u32],
+    words: &mut [u32],
+) -> Found
+    requires { ⌜ Judging (now sheet) (now index) at (now tree) (now states) (now words) ⌝ }
+    ensures { λ f. ⌜ FindsNode (rules-in (now (sheet .entry))) (now (tree .entry)) (now (states .entry)) (at .node) f ⌝ }
+{
+    let symbol = tree[NODE_WORDS * at.node];
+    let rules = at.rules;
+    // symbols above those of tags are texts, of a kind that is the rest
+    if MOST_TAGS < symbol {
+        return Found {
+            targets: text_targets(sheet, index, rules.number, symbol - MOST_TAGS),
+            looks: rules.ones,
+        };
+    }
+    let found = inside(sheet, index, at, tree, states, words);
+    tagged(sheet, index, rules, symbol, found)
+}
