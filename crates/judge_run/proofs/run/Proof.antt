@@ -1,0 +1,69 @@
+-- `judge_run::run` meets its contract: so far the nodes from i on have their state words.
+use mathlib.Core.Path.{_≡_, refl, ap, _∙_}
+use native.Mathlib.Omega.{arith}
+use borrow.Author.Needs.{needs}
+use lib.ListN.{length, replicate}
+use Rattle.model.specs.Index.{rules-in}
+use Rattle.judge_rules.proofs.ContentLaws.{no-words, nothing-found}
+use Rattle.judge_run.proofs.RunLaws.{Running, running-none, running-all, running-room, running-judging, running-two, looks-fit, running-more}
+use Rattle.judge_run.proofs.run.Statement.{statement}
+use Rattle.judge_run.proofs.run.Tie as tie
+
+abbrev Inv-loop : tie.InvT-loop
+Inv-loop sheet index tree states₀ words₀ rules nothing looks₀ i₀ states words looks i =
+    Running (rules-in sheet) tree (length states₀) i states looks × (length words ≡ length words₀)
+
+abbrev μ-loop : tie.MeasureT-loop
+μ-loop sheet index tree states₀ words₀ rules nothing looks₀ i₀ states words looks i = i
+
+pub run-spec : {M : Type 1} → statement M
+run-spec =
+    tie.close
+    (tie.spec
+    Inv-loop
+    μ-loop
+    (λ c κs. search needs)
+    (λ c. search needs)
+    (λ c. refl)
+    (λ c κs. (search needs, no-words))
+    (λ c. (search (running-none, needs), search needs))
+    (λ c. search needs)
+    (λ c κs.
+    let loop = c .before .before .before in
+    let start = loop .before .before .before .before .before .before .before .before .before in
+    let rules = loop .before .before .before .count-rules .ensures in
+    running-judging (start .pre .1 .0) (loop .loop .inv .0) (c .before .before .loop-test .taken) (start .pre .0) rules (nothing-found _ (loop .before .content .ensures))
+    (omega (arith, start .pre .1 .1, loop .loop .inv .1)))
+    (λ c κs. search needs)
+    (λ c κs. search needs)
+    (λ c.
+    let judged = c .before .before .before .before .before .before .before .before in
+    c .before .before .clear .kept .0 ∙ judged .before .before .before .before .loop .inv .0 .long)
+    (λ c.
+    let judged = c .before .before .before .before .before .before .before .before in
+    judged .node .kept .1 .1 .1 .1 .1 .0 ∙ judged .before .before .before .before .loop .inv .1)
+    (λ c.
+    let judged = c .before .before .before .before .before .before .before .before in
+    let loop = judged .before .before .before .before in
+    let start = loop .before .before .before .before .before .before .before .before .before in
+    let word = c .before .before .before .before in
+    let two = running-two (start .pre .1 .0) (loop .loop .inv .0) (judged .before .before .before .loop-test .taken) _ (judged .node .ensures) (word .before .state-word .ensures) (word .if1 .taken) in
+    (two, c .before .before .clear .ensures ∙ ap (λ n. replicate n 0) (loop .loop .inv .0 .long)))
+    (λ c κs. search (running-room, needs))
+    (λ c.
+    let judged = c .before .before .before .before .before .before .before .before .before in
+    let loop = judged .before .before .before .before in
+    let start = loop .before .before .before .before .before .before .before .before .before in
+    let word = c .before .before .before .before .before .before in
+    looks-fit (start .pre .1 .0) (loop .loop .inv .0) (judged .before .before .before .loop-test .taken) _ (judged .node .ensures) (word .state-word .ensures))
+    (λ c. search needs)
+    (λ c.
+    let judged = c .before .before .before .before .before .before .before .before .before in
+    let loop = judged .before .before .before .before in
+    let start = loop .before .before .before .before .before .before .before .before .before in
+    let word = c .before .before .before .before .before in
+    let more = running-more (start .pre .1 .0) (loop .loop .inv .0) (judged .before .before .before .loop-test .taken) _ (judged .node .ensures) (word .before .state-word .ensures) (word .if1 .left) (c .before .before .before .keep .ensures) in
+    (more, judged .node .kept .1 .1 .1 .1 .1 .0 ∙ loop .loop .inv .1))
+    (λ c. search needs)
+    (λ c. search needs)
+    (λ c. search (running-all, needs)))
