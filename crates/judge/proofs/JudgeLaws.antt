@@ -1,99 +1,56 @@
 -- The whole call: what it says and writes at each refusal and where there is none, and the bound of its looks.
-use mathlib.Core.Path.{_≡_, refl, sym, ap, _∙_, subst}
+use mathlib.Core.Path.{_≡_, refl, sym, ap, _∙_}
 use mathlib.Core.List.{List, _++_}
-use Prim.Native.Nat.{ℕ, _*_, _/_, _^_, _≤_, _<_}
-use native.Mathlib.Nat.{mul-le-mul-right}
+use Prim.Native.Nat.{ℕ, _*_, _/_, _≤_, _<_}
 use native.Mathlib.Omega.{arith}
 use lib.Dec.{leb}
-use lib.ListN.{length, getD, take, drop, replicate}
-use lib.Seq.{length-take-le}
+use lib.ListN.{length, getD, take, drop}
+use lib.Seq.{length-take-le, drop-at}
 use borrow.Author.Tests.{leb-true, leb-false, le-leb, lt-leb}
 use Rattle.model.specs.declared.Answer.{Answer}
 use Rattle.model.specs.declared.Answer.the-variants.{Count, Error}
 use Rattle.model.specs.declared.Refusal.{Refusal}
-use Rattle.model.specs.Answers.{Said, refusal, said-refusal, said, Checked, passes, refuses, _>>=_, _>>_, require, room-for}
-use Rattle.model.specs.Tree.{Element, text, tag, size, tree-of}
+use Rattle.model.specs.Answers.{Said, refusal, said-refusal, said, Checked, passes, refuses, _>>=_, _>>_, require, room-for, buffer-after}
+use Rattle.model.specs.Tree.{Element, size, tree-of}
 use Rattle.model.specs.Sheet.{Sheet, sheet-of}
-use Rattle.model.specs.Run.{Ran, ran, two-at, items, run, root-verdict, verdict}
+use Rattle.model.specs.Run.{items, run, verdict}
 use Rattle.model.specs.Calls.{tree-said, sheet-said, judge, verdict-of, judge-said, first-states, states-after, judge-states}
 use Rattle.model.proofs.Tests.{Told, yea, nay, told}
 use Rattle.model.proofs.SheetCode.{sheet-passes}
 use Rattle.model.proofs.TreeLaws.{length-words, tree-passes}
-use Rattle.model.proofs.RunLaws.{over-formed, RunSays, run-says}
 use Rattle.model.specs.Answers.{looks-in}
 use Rattle.model.proofs.Demand2.{looks-bound}
+use Rattle.model.specs.Index.{passed, sheet-in, rules-in, index-words, index-after, Indexed}
+use Rattle.model.proofs.PassedLaws.{passes-in, tags-word, rules-word}
 use Rattle.model.proofs.Answered as answered
-use Rattle.judge.specs.Index.{passed, sheet-in, rules-in, Passes}
-use Rattle.judge.specs.Node.{Form, Shaped}
-use Rattle.judge.specs.Outcome.{Ends}
-use Rattle.judge.specs.declared.run.Outcome.{Outcome}
-use Rattle.judge.specs.declared.run.Outcome.the-variants.{All, Two}
-use Rattle.judge.proofs.NodeLaws.{tree-shaped}
-use Rattle.judge.proofs.WalkLaws.{in-range, tags-word, rules-word}
+use Rattle.judge_run.specs.Run.{Form, verdict-on, states-on}
 
 -- ---- a sheet and a tree that pass
 
-pub passes-in : {s : List ℕ} {t : Sheet} → sheet-of s ≡ passes t → Passes s
-unfolding passed
-passes-in e = record { as-sheet = e ∙ ap passes (sym (ap passed e)) }
-
-pub sheet-passed : (s : List ℕ) {r : Answer} {n : ℕ} → said r ≡ sheet-said s → r ≡ Count n → Passes s
-unfolding sheet-said
-sheet-passed s e c = let (t, p, _) = answered.counted (λ t. length s) (sheet-of s) e c in passes-in p
+-- A sheet that passes has its index at the front of the buffer.
+pub sheet-indexed : (s old : List ℕ) {index : List ℕ} {r : Answer} {n : ℕ} → said r ≡ sheet-said s → index ≡ index-after old s → r ≡ Count n → Indexed s index
+unfolding sheet-said index-after buffer-after _>>=_
+sheet-indexed s old {index} e ei c =
+    let (t, p, _) = answered.counted (λ t. length s) (sheet-of s) e c in
+    let (ok, _) = passes-in p in
+    let ws = index-words (sheet-in s) in
+    let is : index ≡ ws ++ drop (length ws) old = ei ∙ ap (λ (x : Checked Sheet). buffer-after old (x >>= λ t. passes (index-words t))) (ok .as-sheet) in
+    let rest : drop (length ws) index ≡ drop (length ws) old = ap (drop (length ws)) is ∙ drop-at ws (drop (length ws) old) (length ws) refl in
+    record { sheet = ok; there = record { stands = is ∙ ap (λ (l : List ℕ). ws ++ l) (sym rest); ends = omega arith } }
 
 -- a tree is checked over the sheet's tags
-by-tags : {s : List ℕ} (tree : List ℕ) → Passes s → tree-of (sheet-in s .tags) tree ≡ tree-of (getD s 4 0) tree
-by-tags tree ok = ap (λ (g : ℕ). tree-of g tree) (sym (tags-word ok))
+by-tags : {s index : List ℕ} (tree : List ℕ) → Indexed s index → tree-of (sheet-in s .tags) tree ≡ tree-of (getD s 4 0) tree
+by-tags tree h = ap (λ (g : ℕ). tree-of g tree) (sym (tags-word (h .sheet)))
 
-pub tree-counted : {s : List ℕ} (tree : List ℕ) → Passes s → {r : Answer} {n : ℕ} → said r ≡ tree-said (getD s 4 0) tree → r ≡ Count n → Form s tree n
-tree-counted {s} tree ok e c = let (f, p, n) = answered.tree-counted (getD s 4 0) tree e c in record { form = f; as-tree = by-tags tree ok ∙ p; nodes = n }
+pub tree-counted : {s index : List ℕ} (tree : List ℕ) → Indexed s index → {g : ℕ} → g ≡ getD s 4 0 → {r : Answer} {n : ℕ} → said r ≡ tree-said g tree → r ≡ Count n
+    → Form s tree n
+tree-counted {s} tree h eg e c =
+    let (f, p, n) = answered.tree-counted (getD s 4 0) tree (rw eg at e) c in
+    record { form = f; as-tree = by-tags tree h ∙ p; nodes = n }
 
 -- as many nodes as state words in the front of a buffer
 pub front-form : {s tree : List ℕ} {n : ℕ} (states : List ℕ) → Form s tree n → n ≤ length states → Form s tree (length (take n states))
 front-form {n = n} states f h = rw (length-take-le n states h) f
-
-module _ {s tree : List ℕ} {n : ℕ} (ok : Passes s) (f : Form s tree n) where
-  few-tags : sheet-in s .tags ≤ 64
-  few-tags = in-range ok .few-tags
-
-  pub form-shaped : Shaped tree n
-  form-shaped = rw (f .nodes) at (tree-shaped few-tags (f .as-tree))
-
-  -- looks fit 32 bits
-  pub looks-small : {st : List ℕ} {m : ℕ} → run (rules-in s) (items tree) ≡ ran st m → m < 2 ^ 32
-  looks-small {st} {m} e =
-      let R = rules-in s in
-      let (w, o) = tree-passes (sheet-in s .tags) few-tags tree (f .form) .0 (f .as-tree) in
-      let says : RunSays R (f .form) (ran st m) = rw (← w, e) at (run-says R (f .form) (over-formed (sheet-in s .tags) few-tags (f .form) o)) in
-      let most = in-range ok .few-rules in
-      let a : size (f .form) * length R ≤ 4096 * length R = mul-le-mul-right (length R) (o .few) in
-      let b : 2 * size (f .form) * length R ≡ 2 * (size (f .form) * length R) = omega arith in
-      omega (arith, says .2)
-
--- there is a node
-pub form-some : {s tree : List ℕ} {n : ℕ} → Form s tree n → 0 < n
-unfolding size
-form-some f = rw (f .nodes) at (go (f .form))
-  where
-    go : (e : Element) → 0 < size e
-    go (text k w) = omega arith
-    go (tag a w d) = omega arith
-
--- ---- the outcome of the run, by its case
-
-module _ {x : Outcome} (n : ℕ) (st : List ℕ) (r : Ran) (ends : Ends n x st r) where
-  pub all-ended : {m : ℕ} → x ≡ All m → r ≡ ran st m
-  all-ended e = subst (λ y. Ends n y st r) e ends
-
-  pub all-said : {m : ℕ} → x ≡ All m → (final : List ℕ) {v : Said} → v ≡ root-verdict final st m → (v ≡ verdict final r) × (st ≡ first-states n r)
-  unfolding verdict first-states
-  all-said e final ev = rw (all-ended e) (ev, refl)
-
-  pub two-said : {i : ℕ} → x ≡ Two i → (final : List ℕ) → (refusal 23 i ≡ verdict final r) × (st ≡ first-states n r)
-  unfolding verdict first-states
-  two-said {i} e final =
-      let t : (r ≡ two-at i) × (st ≡ replicate n 0) = subst (λ y. Ends n y st r) e ends in
-      rw (t .0) (refl, t .1)
 
 -- ---- the call
 
@@ -133,7 +90,7 @@ module _ (sheet tree states : List ℕ) where
       let tags : s .tags ≤ 64 = sheet-passes sheet s .0 ok .1 .few-tags in
       let (w, _) = tree-passes (s .tags) tags tree e .0 tok in
       let nodes : length tree / 4 ≡ size e = omega (arith, ap length w, length-words e) in
-      let rules : getD sheet 5 0 ≡ length (s .rules) = rules-word (passes-in ok) ∙ ap (λ c. length (passed c .rules)) ok in
+      let rules : getD sheet 5 0 ≡ length (s .rules) = rules-word (passes-in ok .0) ∙ ap (λ c. length (passed c .rules)) ok in
       rw (nodes, rules) (looks-bound sheet tree states ok tok h)
 
   pub few-looks : Few
@@ -164,17 +121,20 @@ module _ (sheet tree states : List ℕ) where
   unfolding sheet-said
   sheet-refused e c = let (n, i, p, f) = answered.refused (λ s. length sheet) (sheet-of sheet) e c in promised f (at-sheet p)
 
-  module _ (ok : Passes sheet) where
+  module _ {index : List ℕ} (h : Indexed sheet index) where
     -- the tree's
-    pub tree-refused : {r : Answer} {x : Refusal} → said r ≡ tree-said (getD sheet 4 0) tree → r ≡ Error x → Promises (said-refusal x) states
-    tree-refused e c = let (i, p, f) = answered.tree-refused (getD sheet 4 0) tree e c in promised f (at-tree (ok .as-sheet) (by-tags tree ok ∙ p))
+    pub tree-refused : {g : ℕ} → g ≡ getD sheet 4 0 → {r : Answer} {x : Refusal} → said r ≡ tree-said g tree → r ≡ Error x → Promises (said-refusal x) states
+    tree-refused eg e c =
+        let (i, p, f) = answered.tree-refused (getD sheet 4 0) tree (rw eg at e) c in
+        promised f (at-tree (h .sheet .as-sheet) (by-tags tree h ∙ p))
 
     module _ {n : ℕ} (f : Form sheet tree n) where
       -- the room for the states
       pub room-refused : length states < n → Promises (refusal 22 n) states
-      room-refused h = rw (← f .nodes) (promised refl (at-room (ok .as-sheet) (f .as-tree) (rw (← f .nodes) at h)))
+      room-refused l = rw (← f .nodes) (promised refl (at-room (h .sheet .as-sheet) (f .as-tree) (rw (← f .nodes) at l)))
 
       -- the nodes judged, with their state words in the first n
-      pub nodes-judged : n ≤ length states → {x : Said} {out : List ℕ} → x ≡ verdict (sheet-in sheet .final) (run (rules-in sheet) (items tree))
-          → out ≡ first-states (length (take n states)) (run (rules-in sheet) (items tree)) → Promises x (out ++ drop n states)
-      nodes-judged h e eo = promised e (rw (eo, length-take-le n states h, ← f .nodes) (at-nodes (ok .as-sheet) (f .as-tree) (rw (← f .nodes) at h)))
+      pub nodes-judged : n ≤ length states → {x : Said} {out : List ℕ} → x ≡ verdict-on sheet tree → out ≡ states-on sheet tree (take n states)
+          → Promises x (out ++ drop n states)
+      nodes-judged l e eo =
+          promised e (rw (eo, length-take-le n states l, ← f .nodes) (at-nodes (h .sheet .as-sheet) (f .as-tree) (rw (← f .nodes) at l)))

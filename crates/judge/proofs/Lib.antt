@@ -1,21 +1,2 @@
-mod PartLaws
-mod OrderLaws
-mod OccursLaws
-mod SignedLaws
-mod SumLaws
-mod StepLaws
-mod CountLaws
-mod WordLaws
-mod KindLaws
-mod NodeLaws
-mod GatherLaws
-mod TargetLaws
-mod ChainLaws
-mod EndLaws
-mod WalkLaws
-mod TryLaws
-mod ContentLaws
-mod ElementLaws
-mod RunLaws
 mod JudgeLaws
 pub mod Claims

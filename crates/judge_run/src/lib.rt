@@ -12,6 +12,7 @@ use judge_node::node;
 use judge_rules::content;
 use judge_rules::count_rules;
 use layout::FINAL;
+use layout::INDEX_WORDS;
 use layout::MOST_NODES;
 use model::Judgement;
 use model::Refusal;
@@ -123,7 +124,12 @@ fn verdict(sheet: &[u32], states: &[u32], looks: u32) -> Judgement
 }
 
 // The verdict of a sheet and a tree that pass, with a state word for each node.
-pub fn judge_nodes(sheet: &[u32], index: &[u32], tree: &[u32], states: &mut [u32]) -> Judgement
+pub fn judge_nodes(
+    sheet: &[u32],
+    index: &[u32; INDEX_WORDS],
+    tree: &[u32],
+    states: &mut [u32],
+) -> Judgement
     requires index { ⌜ Indexed (now sheet) (now index) ⌝ }
     requires tree { ⌜ Form (now sheet) (now tree) (length (now states)) ⌝ }
     ensures answer { λ r. ⌜ said-judgement r ≡ verdict-on (now (sheet .entry)) (now (tree .entry)) ⌝ }

@@ -22,7 +22,7 @@ use Rattle.model.proofs.ReadGood.{read-good}
 use Rattle.model.proofs.RoundTrip.{one-size, one-words, room-passes}
 use Rattle.model.proofs.Formcheck.{Presents, judged}
 use Rattle.model.proofs.Answered as answered
-use Rattle.judge.specs.Index.{passed, sheet-in, Passes}
+use Rattle.model.specs.Index.{passed, sheet-in, Passes}
 
 -- ---- a buffer with enough room refuses nothing
 

@@ -9,7 +9,7 @@ ghost use Rattle.model.specs.Sheet.{file-words};
 ghost use Rattle.model.specs.Names.{names-of};
 ghost use Rattle.model.specs.Calls.{formcheck};
 ghost use Rattle.model.specs.Line.{formcheck-line};
-ghost use Rattle.judge.specs.Index.{Passes};
+ghost use Rattle.model.specs.Index.{Passes};
 ghost use Rattle.verdict.specs.Sizes.{names-bytes, sheet-bytes, form-bytes};
 use layout::MOST_NODES;
 use layout::MOST_WORDS;
