@@ -1,0 +1,187 @@
+-- Laws of sets as numbers: a mask in two parts; all numbers below k, and those that are not in a set; sets of pairs, row by row.
+use mathlib.Core.Path.{_≡_, refl, sym, ap, ap₂, _∙_}
+use mathlib.Core.Bool.{Bool, true, false, cond, not, _&&_, false≢true}
+use mathlib.Core.List.{List}
+use Prim.Native.Nat.{ℕ, zero, suc, _+_, _-_, _*_, _/_, _%_, _^_, _≤_, _<_, min}
+use native.Mathlib.Nat.{zero-add, mul-assoc, mul-le-mul-right, pow-suc, mod-lt, div-lt-iff-lt-mul, le-div-iff-mul-le, lt-of-not-le}
+use native.Mathlib.Omega.{arith}
+use lib.Bits.{bitAnd, and-le-l}
+use lib.Dec.{leb}
+use lib.Pow.{pow-pos, pow-mono, shl-exact}
+use borrow.Author.Tests as tests
+use mir.Val.{boolByte}
+use Rattle.model.specs.Lists.{_∈_, has, grid, SetBelow}
+use Rattle.model.specs.Sheet.{mask, bit}
+use Rattle.model.specs.Compose.{pair, Side, S, T, half}
+use Rattle.model.proofs.Tests.{Told, yea, nay, told, and-yes}
+use Rattle.model.proofs.ListLaws.{∈-has, has-∈, has-no, pair-left, pair-right}
+use Rattle.model.proofs.Pairs.{either, on-both, ∈-pairs}
+use Rattle.model.proofs.SetWords.{bit-mask, mask-<}
+use Rattle.bits.proofs.BitLaws.{mask-like, mask-bits, bit-and, shifted-one}
+use Rattle.page.specs.Sets.{all-below, complement, pair-set}
+
+-- ---- masks
+
+-- the lowest a bits, and those above them
+mask-parts : (a b : ℕ) (f : ℕ → Bool) → mask (a + b) f ≡ mask a f + mask b (λ i. f (a + i)) * 2 ^ a
+unfolding mask
+mask-parts zero b f =
+    let e : 0 + b ≡ b = omega arith in
+    let same : mask b f ≡ mask b (λ i. f (0 + i)) = mask-like b f (λ i. f (0 + i)) (λ i _. ap f (sym (zero-add i))) in
+    ap (λ (k : ℕ). mask k f) e ∙ omega arith
+mask-parts (suc a) b f =
+    let e : suc a + b ≡ suc (a + b) = omega arith in
+    let high = mask b (λ i. f (suc (a + i))) in
+    let same : mask b (λ i. f (suc a + i)) ≡ high = mask-like b _ _ (λ i _. let there : suc a + i ≡ suc (a + i) = omega arith in ap f there) in
+    let twice : high * 2 ^ suc a ≡ high * 2 ^ a * 2 = ap (λ (x : ℕ). high * x) (pow-suc 2 a) ∙ sym (mul-assoc high (2 ^ a) 2) in
+    ap (λ (k : ℕ). mask k f) e ∙ rw same (omega (arith, mask-parts a b (λ i. f (suc i)), twice))
+
+-- ---- the numbers below k that are not in a set
+
+pub mask-not : (k : ℕ) (f : ℕ → Bool) → mask k (λ i. not (f i)) + mask k f + 1 ≡ 2 ^ k
+unfolding mask
+mask-not zero f = refl
+mask-not (suc k) f = go (f 0) _ _ (mask-not k (λ i. f (suc i)))
+  where
+    go : (b : Bool) (n m : ℕ) → n + m + 1 ≡ 2 ^ k → cond (not b) 1 0 + 2 * n + (cond b 1 0 + 2 * m) + 1 ≡ 2 ^ suc k
+    go true n m e = omega (arith, pow-suc 2 k)
+    go false n m e = omega (arith, pow-suc 2 k)
+
+mask-none : (k : ℕ) → mask k (λ i. false) ≡ 0
+unfolding mask
+mask-none zero = refl
+mask-none (suc k) = omega (arith, mask-none k)
+
+-- all numbers below k
+mask-all : (k : ℕ) → mask k (λ i. true) + 1 ≡ 2 ^ k
+mask-all k = omega (arith, mask-not k (λ i. false), mask-none k)
+
+pub some-power : (k : ℕ) → k < 64 → 1 ≤ (1 * 2 ^ k) % 2 ^ 64
+some-power k h = omega (arith, shifted-one k h, pow-pos k)
+
+pub shifted-all : (k : ℕ) → k < 64 → (1 * 2 ^ k) % 2 ^ 64 - 1 ≡ all-below k
+unfolding all-below
+shifted-all k h =
+    let e : min k 64 ≡ k = omega arith in
+    rw e (omega (arith, shifted-one k h, mask-all k))
+
+pub every-number : (k : ℕ) → 64 ≤ k → 2 ^ 64 - 1 ≡ all-below k
+unfolding all-below
+every-number k h =
+    let e : min k 64 ≡ 64 = omega arith in
+    rw e (omega (arith, mask-all 64))
+
+-- ---- a row of pairs: all or none of them, and of these the members of t
+
+module _ (n : ℕ) {all : ℕ} (e : all ≡ all-below n) (flag : Bool) where
+  all-or-none : all * boolByte flag ≡ mask (min n 64) (λ i. flag)
+  unfolding all-below
+  all-or-none = go flag
+    where
+      go : (b : Bool) → all * boolByte b ≡ mask (min n 64) (λ i. b)
+      go true = omega (arith, e)
+      go false = omega (arith, mask-none (min n 64))
+
+  few-powers : 2 ^ min n 64 ≤ 2 ^ 64
+  few-powers = let h : min n 64 ≤ 64 = omega arith in pow-mono h
+
+  pub row-fits : all * boolByte flag < 2 ^ 64
+  row-fits = omega (arith, all-or-none, mask-< (min n 64) (λ i. flag), few-powers)
+
+  pub row-is : (t : ℕ) → bitAnd (all * boolByte flag) t ≡ mask (min n 64) (λ i. flag && bit t i)
+  row-is t =
+      let k = min n 64 in
+      let some = mask k (λ i. flag) in
+      ap (λ (x : ℕ). bitAnd x t) all-or-none
+      ∙ mask-bits k (bitAnd some t) _ (omega (arith, and-le-l some t, mask-< k (λ i. flag)))
+      (λ i l. bit-and some t i ∙ ap (λ (b : Bool). b && bit t i) (bit-mask k (λ i. flag) i l))
+
+-- the numbers below k that are not in a set: all but those of them that are
+module _ (set k : ℕ) {all some : ℕ} (e : all ≡ all-below k) (f : some ≡ mask (min k 64) (λ i. bit set i)) where
+  pub some-of-all : some ≤ all
+  unfolding all-below
+  some-of-all = omega (arith, e, f, mask-all (min k 64), mask-< (min k 64) (λ i. bit set i))
+
+  pub complement-is : all - some ≡ complement set k
+  unfolding all-below complement
+  complement-is = omega (arith, e, f, mask-all (min k 64), mask-not (min k 64) (λ i. bit set i))
+
+-- ---- pairs, row by row
+
+-- whether both halves of a pair are in their sets
+abbrev both : (n s t x : ℕ) → Bool
+both n s t x = bit s (x / n) && bit t (x % n)
+
+-- what is told of two numbers: there are no pairs, over 64 pairs, or at most 64
+module _ (m n s t : ℕ) where
+  pub no-columns : n ≡ 0 → 0 ≡ pair-set m n s t
+  unfolding pair-set mask
+  no-columns e = let none : m * 0 ≡ 0 = omega arith in rw (e, none)
+
+  pub many-pairs : 1 ≤ n → 64 / n < m → 0 ≡ pair-set m n s t
+  unfolding pair-set
+  many-pairs some h =
+      let many : 64 < m * n = lt-of-not-le (λ l. absurd (omega (arith, le-div-iff-mul-le {x = m} {y = 64} some .1 l))) in
+      rw (tests.lt-leb (m * n) 64 many)
+
+  pub few-pairs : m * n ≤ 64 → pair-set m n s t ≡ mask (m * n) (both n s t)
+  unfolding pair-set
+  few-pairs h = rw (tests.le-leb (m * n) 64 h)
+
+-- the rows below i
+pub record Rows (m n s t i set : ℕ) : Type 0 where
+  pub within : i ≤ m
+  pub is : set ≡ mask (i * n) (both n s t)
+
+pub no-rows : (m n s t : ℕ) → Rows m n s t 0 0
+unfolding mask
+no-rows m n s t = let e : 0 * n ≡ 0 = omega arith in record { within = omega arith; is = sym (ap (λ (k : ℕ). mask k (both n s t)) e) }
+
+pub all-rows : {m n s t i set : ℕ} → m * n ≤ 64 → Rows m n s t i set → m ≤ i → set ≡ pair-set m n s t
+all-rows {m} {n} {s} {t} {i} few h l =
+    let e : i ≡ m = omega (arith, h .within) in
+    h .is ∙ ap (λ (k : ℕ). mask (k * n) (both n s t)) e ∙ sym (few-pairs m n s t few)
+
+-- one row more
+pub few-rows : (m n : ℕ) → 1 ≤ n → m ≤ 64 / n → m * n ≤ 64
+few-rows m n some h = le-div-iff-mul-le some .0 h
+
+pub row-room : (m n i : ℕ) → m * n ≤ 64 → i < m → i * n + n ≤ 64
+row-room m n i few l = let h : suc i * n ≤ m * n = mul-le-mul-right n l in omega arith
+
+module _ {m n s t i set row : ℕ} {flag : Bool} (few : m * n ≤ 64) (l : i < m) (h : Rows m n s t i set) (f : flag ≡ bit s i) (r : row ≡ mask (min n 64) (λ j. flag && bit t j)) where
+  row-whole : row ≡ mask n (λ j. flag && bit t j)
+  row-whole = let e : min n 64 ≡ n = omega (arith, row-room m n i few l) in r ∙ ap (λ (k : ℕ). mask k (λ j. flag && bit t j)) e
+
+  abbrev with-row : ℕ
+  with-row = set + (row * 2 ^ (i * n)) % 2 ^ 64
+
+  with-row-is : with-row ≡ mask (i * n + n) (both n s t)
+  with-row-is =
+      let high : mask n (λ j. both n s t (i * n + j)) ≡ row = mask-like n _ _ (λ j k. ap₂ _&&_ (ap (bit s) (pair-left i k) ∙ sym f) (ap (bit t) (pair-right i k))) ∙ sym row-whole in
+      let exact : (row * 2 ^ (i * n)) % 2 ^ 64 ≡ row * 2 ^ (i * n) = shl-exact n (i * n) 64 (omega (arith, row-whole, mask-< n (λ j. flag && bit t j))) (omega (arith, row-room m n i few l)) in
+      ap₂ _+_ (h .is) (exact ∙ ap (λ (x : ℕ). x * 2 ^ (i * n)) (sym high)) ∙ sym (mask-parts (i * n) n (both n s t))
+
+  pub with-row-fits : with-row < 2 ^ 64
+  with-row-fits = omega (arith, with-row-is, mask-< (i * n + n) (both n s t), pow-mono (row-room m n i few l))
+
+  pub one-row-more : Rows m n s t (i + 1) with-row
+  one-row-more = let e : i * n + n ≡ (i + 1) * n = omega arith in record { within = omega arith; is = with-row-is ∙ ap (λ (k : ℕ). mask k (both n s t)) e }
+
+-- ---- pairs of two sets
+
+module _ {a b : ℕ} {l m : List ℕ} (h : SetBelow a l) (k : SetBelow b m) where
+  has-pairs : (x : ℕ) → has (grid (pair b) l m) x ≡ has l (x / b) && has m (x % b)
+  has-pairs x = go (told (has l (x / b))) (told (has m (x % b)))
+    where
+      there : x ∈ grid (pair b) l m → (side : Side) → half side b x ∈ either l m side
+      there = ∈-pairs b (either l m) (k .below) x .0
+
+      go : Told (has l (x / b)) → Told (has m (x % b)) → has (grid (pair b) l m) x ≡ has l (x / b) && has m (x % b)
+      go (yea s) (yea t) = ∈-has (∈-pairs b (either l m) (k .below) x .1 (on-both (λ side. half side b x ∈ either l m side) (has-∈ l s) (has-∈ m t))) ∙ sym (and-yes s t)
+      go (nay s) t = has-no (λ i. false≢true (sym s ∙ ∈-has (there i S))) ∙ sym (ap (λ (c : Bool). c && has m (x % b)) s)
+      go (yea s) (nay t) = has-no (λ i. false≢true (sym t ∙ ∈-has (there i T))) ∙ sym (ap₂ _&&_ s t)
+
+  pub pairs-mask : 1 ≤ b → mask (a * b) (λ x. bit (mask a (has l)) (x / b) && bit (mask b (has m)) (x % b)) ≡ mask (a * b) (has (grid (pair b) l m))
+  pairs-mask some =
+      mask-like (a * b) _ _ (λ x i. ap₂ _&&_ (bit-mask a (has l) (x / b) (div-lt-iff-lt-mul some .1 i)) (bit-mask b (has m) (x % b) (mod-lt x some)) ∙ sym (has-pairs x))

@@ -1,0 +1,15 @@
+-- `check_words` meets its contract.
+use Rattle.model.specs.Answers.{said, said-refusal}
+use Rattle.page.proofs.LimitLaws.{words-over, words-short, words-within}
+use borrow.Author.Needs.{needs}
+use Rattle.page.proofs.check_words.Statement.{statement}
+use Rattle.page.proofs.check_words.Tie as tie
+
+pub check-words-spec : {M : Type 1} → statement M
+unfolding said said-refusal
+check-words-spec =
+    tie.close
+    (tie.spec
+    (λ c. words-over _ _ (c .if1 .taken))
+    (λ c. words-short _ _ (c .before .if1 .left) (c .if2 .taken))
+    (λ c. words-within _ _ (c .before .if1 .left) (c .if2 .left)))

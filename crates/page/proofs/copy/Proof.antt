@@ -1,0 +1,35 @@
+-- `copy` meets its contract.
+use Prim.Native.Nat.{_-_}
+use native.Mathlib.Omega.{arith}
+use lib.Seq.{slice}
+use denote.Ref.{now}
+use Rattle.page.proofs.PageLaws.{Left, begun, more, done, kept, slice-cut, slice-next, slice-none}
+use borrow.Author.Needs.{needs}
+use Rattle.page.proofs.copy.Statement.{statement}
+use Rattle.page.proofs.copy.Tie as tie
+
+abbrev Inv-loop : tie.InvT-loop
+Inv-loop words from to out₀ at end next₀ i₀ out next i = Left out₀ at (slice from to words) out next (slice i end words)
+
+abbrev μ-loop : tie.MeasureT-loop
+μ-loop words from to out₀ at end next₀ i₀ out next i = end - i
+
+pub copy-spec : {M : Type 1} → statement M
+copy-spec =
+    tie.close
+    (tie.spec
+    Inv-loop
+    μ-loop
+    (λ c κs. search needs)
+    (λ c. let a = c .before .before .before .args in begun (slice-cut (now (a .words)) (a .from) (a .to) (c .end-within .ensures)))
+    (λ c. search needs)
+    (λ c. search needs)
+    (λ c κs. search needs)
+    (λ c. search needs)
+    (λ c. search needs)
+    (λ c.
+    let put = c .before .before in
+    let turn = put .before .before .before in
+    more (turn .before .loop .inv) (slice-next _ _ _ (turn .loop-test .taken) (omega arith)) (put .put .ensures))
+    (λ c. kept (c .before .loop .inv))
+    (λ c. done (c .before .loop .inv) (slice-none _ _ _ (c .loop-test .left))))
