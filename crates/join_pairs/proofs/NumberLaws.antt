@@ -4,7 +4,7 @@ use native.Mathlib.Nat.{le-trans, mul-le-mul-left, mul-le-mul-right, mod-lt, div
 use native.Mathlib.Omega.{arith}
 use Rattle.model.specs.Compose.{Side, S, T, half, Sizes, of-other}
 use Rattle.model.specs.Compose.{of-side, of-pairs}
-use Rattle.compose.specs.Sides.{FewPairs}
+use Rattle.join_pairs.specs.Sides.{FewPairs}
 
 pub mul-le : (a b : ℕ) {x y : ℕ} → a ≤ x → b ≤ y → a * b ≤ x * y
 mul-le a b {x} {y} h k = le-trans (mul-le-mul-right b h) (mul-le-mul-left x k)

@@ -1,10 +1,10 @@
--- `side::pair` meets its contract.
+-- `pair` meets its contract.
 use mathlib.Core.Path.{refl}
 use Prim.Native.Nat.{ℕ, _*_, _≤_}
 use native.Mathlib.Omega.{arith}
-use Rattle.compose.proofs.NumberLaws.{mul-le}
-use Rattle.compose.proofs.side.pair.Statement.{statement}
-use Rattle.compose.proofs.side.pair.Tie as tie
+use Rattle.join_pairs.proofs.NumberLaws.{mul-le}
+use Rattle.join_pairs.proofs.pair.Statement.{statement}
+use Rattle.join_pairs.proofs.pair.Tie as tie
 
 -- either half times p
 products : {p s t : ℕ} → (p ≤ 64) × (s ≤ 255) × (t ≤ 255) → (s * p ≤ 16320) × (t * p ≤ 16320)

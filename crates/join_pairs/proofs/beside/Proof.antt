@@ -1,7 +1,7 @@
--- `side::beside` meets its contract.
+-- `beside` meets its contract.
 use borrow.Author.Needs.{needs}
-use Rattle.compose.proofs.side.beside.Statement.{statement}
-use Rattle.compose.proofs.side.beside.Tie as tie
+use Rattle.join_pairs.proofs.beside.Statement.{statement}
+use Rattle.join_pairs.proofs.beside.Tie as tie
 
 pub beside-spec : {M : Type 1} → statement M
 beside-spec =

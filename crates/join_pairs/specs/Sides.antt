@@ -1,9 +1,9 @@
 -- The two sheets of a join, as the code has them.
 use Prim.Native.Nat.{_*_, _≤_}
 use Rattle.model.specs.Compose as model
-use Rattle.compose.specs.declared.side.Side.{Side}
-use Rattle.compose.specs.declared.side.Side.the-variants.{S, T}
-use Rattle.compose.specs.declared.side.Sizes.{Sizes}
+use Rattle.join_pairs.specs.declared.Side.{Side}
+use Rattle.join_pairs.specs.declared.Side.the-variants.{S, T}
+use Rattle.join_pairs.specs.declared.Sizes.{Sizes}
 
 abbrev pub side-of : Side → model.Side
 side-of S = model.S
