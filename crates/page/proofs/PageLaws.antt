@@ -88,6 +88,10 @@ kept {l₀} {i₀} {ws} {l} {i} {rest} p = sym (adds-length (page l i) rest) ∙
 pub slice-next : (l : List ℕ) (i j : ℕ) → i < j → j ≤ length l → slice i j l ≡ getD l i 0 ∷ slice (i + 1) j l
 slice-next l i j h k = rw add-one (slice-cons i j l 0 h k)
 
+-- the first of them, as it was read
+pub slice-at : (l : List ℕ) (i j : ℕ) {w : ℕ} → w ≡ getD l i 0 → i < j → j ≤ length l → slice i j l ≡ w ∷ slice (i + 1) j l
+slice-at l i j e h k = slice-next l i j h k ∙ ap (λ (x : ℕ). x ∷ slice (i + 1) j l) (sym e)
+
 pub slice-none : (l : List ℕ) (i j : ℕ) → j ≤ i → slice i j l ≡ []
 slice-none l i j h = drop-of-length-le (take j l) {i = i} (omega (arith, length-take j l))
 

@@ -15,12 +15,14 @@ use Rattle.model.specs.Spans.{WordsAt}
 use Rattle.model.proofs.PartLaws.{words-from}
 use Rattle.model.proofs.RuleWords.{order-room}
 use Rattle.model.proofs.Spans.{word-there, word-here, span-right}
-use Rattle.compose.specs.Arcs.{lifted-arc, paired-arc}
-use Rattle.compose.specs.declared.order.OrderHead.{OrderHead}
+use Rattle.parts.specs.Lengths.{order-length}
+use Rattle.page.specs.Sets.{pair-set}
+use Rattle.join_order.specs.Arcs.{lifted-arc, lifted-grid, paired-arc}
+use Rattle.join_order.specs.declared.OrderHead.{OrderHead}
 use Rattle.model.specs.Spans.{OrderAt}
-use Rattle.compose.specs.Parts.{HeadOf}
-use Rattle.compose.proofs.NumberLaws.{mul-le}
-use Rattle.compose.proofs.SetLaws.{pairs-mask}
+use Rattle.join_order.specs.Orders.{arcs-in, HeadOf, paired-grid}
+use Rattle.join_pairs.proofs.NumberLaws.{mul-le}
+use Rattle.page.proofs.SetLaws.{few-pairs, pairs-mask}
 
 -- ---- grids
 
@@ -59,26 +61,31 @@ arc-back a hp hm h =
     let ee : arc-of w .enters ≡ a .enters = omega (arith, h .leaves, h .reads, h .enters) in
     λ i. record { leaves = el i; reads = er i; enters = ee i }
 
--- where the fields of an order part stand
+-- what an order part has, as the code reads it
 module _ {p a : ℕ} {s : List ℕ} {o : Order} (h : OrderAt p s a o) where
-  pub head-of : (arcs set : ℕ) → arcs ≡ getD s (a + 3) 0 → set ≡ getD s (a + 1) 0 + getD s (a + 2) 0 * W
-      → HeadOf s o (record { positions = getD s a 0; accepting = set; arcs = arcs; from = a + 4; to = a + 4 + arcs })
-  unfolding order-words set-words
-  head-of arcs set ea es =
+  pub order-end : a + order-length s a ≤ length s
+  unfolding order-length
+  order-end = omega (arith, order-room h)
+
+  pub head-of : {positions set arcs long : ℕ} → positions ≡ getD s a 0 → set ≡ getD s (a + 1) 0 + getD s (a + 1 + 1) 0 * W
+      → arcs ≡ getD s (a + 3) 0 → long ≡ order-length s a
+      → HeadOf s o (record { positions = positions; accepting = set; arcs = arcs; from = a + 4; to = a + long })
+  unfolding order-words set-words order-length
+  head-of {set = set} {arcs} {long} ep es ea el =
       let n = mask (o .positions) (has (o .accepting)) in
       let ws = map arc-word (o .arcs) in
-      let low : getD s (a + 1) 0 ≡ n % W = word-here (span-right (o .positions ∷ []) (n % W ∷ n / W ∷ length (o .arcs) ∷ ws) (h .there)) in
-      let high : getD s (a + 2) 0 ≡ n / W = word-here (span-right (o .positions ∷ n % W ∷ []) (n / W ∷ length (o .arcs) ∷ ws) (h .there)) in
+      let low-span = span-right (o .positions ∷ []) (n % W ∷ n / W ∷ length (o .arcs) ∷ ws) (h .there) in
+      let low : getD s (a + 1) 0 ≡ n % W = word-here low-span in
+      let high : getD s (a + 1 + 1) 0 ≡ n / W = word-here (span-right (n % W ∷ []) (n / W ∷ length (o .arcs) ∷ ws) low-span) in
       let body = span-right (o .positions ∷ n % W ∷ n / W ∷ length (o .arcs) ∷ []) ws (h .there) in
       let (room, count) = order-room h in
-      let e : arcs ≡ length (o .arcs) = ea ∙ count in
-      let last : a + 4 + arcs ≡ h .end = omega (arith, body .ends, length-map (o .arcs) arc-word) in
+      let last : a + long ≡ h .end = omega (arith, body .ends, length-map (o .arcs) arc-word) in
       record {
-        positions = word-here (h .there);
+        positions = ep ∙ word-here (h .there);
         accepting = omega arith;
-        arcs = e;
+        arcs = ea ∙ count;
         words = ap (λ (e : ℕ). slice (a + 4) e s) last ∙ words-from body (omega arith);
-        room = omega arith;
+        room = omega (arith, order-end);
       }
 
 -- ---- lifted and paired order parts
@@ -87,49 +94,53 @@ module _ {s : List ℕ} {o : Order} {x : OrderHead} (h : HeadOf s o x) {p : ℕ}
   back : (a : Arc) → a ∈ o .arcs → arc-of (arc-word a) ≡ a
   back a m = arc-back a few (ranges .few-positions) (ranges .arcs a m)
 
-  pub lifted-order-words : (side : Side) (n : Sizes) {arcs other : ℕ} → other ≡ of-other side n → arcs ≡ x .arcs * other
-      → (x .positions ∷ []) ++ ((x .accepting % W ∷ x .accepting / W ∷ []) ++ ((arcs ∷ []) ++ grid (lifted-arc side n) (slice (x .from) (x .to) s) (numbers (of-other side n))))
-      ≡ order-words (lift-order side n o)
+  -- the arcs are few, and so are the lifted ones
+  pub lifted-few : {other : ℕ} → other ≤ 64 → x .arcs * other ≤ 1024 * 64
+  lifted-few {other} l = let few-arcs : x .arcs ≤ 1024 = omega (arith, h .arcs, ranges .few-arcs) in mul-le (x .arcs) other few-arcs l
+
+  pub lifted-order-words : (side : Side) (n : Sizes) {other : ℕ} → other ≡ of-other side n
+      → (x .positions ∷ x .accepting % W ∷ x .accepting / W ∷ x .arcs * other ∷ []) ++ lifted-grid side n (arcs-in s x) ≡ order-words (lift-order side n o)
   unfolding order-words lift-order set-words
-  lifted-order-words side n {arcs} eo ea =
+  lifted-order-words side n {other} eo =
       let others = numbers (of-other side n) in
-      let same : map arc-word (grid (lift-arc side n) (o .arcs) others) ≡ grid (lifted-arc side n) (slice (x .from) (x .to) s) others
-      = map-grid (lift-arc side n) arc-word arc-word (λ (i : ℕ). i) (lifted-arc side n) (o .arcs) others (λ a i m _. ap (λ (b : Arc). arc-word (lift-arc side n b i)) (sym (back a m)))
+      let same : map arc-word (grid (lift-arc side n) (o .arcs) others) ≡ lifted-grid side n (arcs-in s x)
+      = map-grid (lift-arc side n) arc-word arc-word (λ (i : ℕ). i) (lifted-arc side n) (o .arcs) others
+      (λ a i m _. ap (λ (b : Arc). arc-word (lift-arc side n b i)) (sym (back a m)))
       ∙ ap₂ (grid (lifted-arc side n)) (sym (h .words)) (map-id others) in
-      let count : arcs ≡ length (grid (lift-arc side n) (o .arcs) others) = ea ∙ ap₂ _*_ (h .arcs) (eo ∙ sym (length-from (of-other side n) 0)) ∙ sym (length-grid (lift-arc side n) (o .arcs) others) in
+      let count : x .arcs * other ≡ length (grid (lift-arc side n) (o .arcs) others)
+      = ap₂ _*_ (h .arcs) (eo ∙ sym (length-from (of-other side n) 0)) ∙ sym (length-grid (lift-arc side n) (o .arcs) others) in
       rw (h .positions, h .accepting, count, same)
 
-pub record FewPositions (x y : OrderHead) : Type 0 where
-  pub pairs : x .positions * y .positions ≤ 64
-  pub some-T : 1 ≤ y .positions
-  pub few-T : y .positions ≤ 64
+-- the pairs of positions and of arcs are few
+pub record PairsFit (x y : OrderHead) : Type 0 where
+  pub positions : x .positions * y .positions ≤ 64
   pub arcs : x .arcs * y .arcs ≤ 1024 * 1024
+  pub few-T : y .positions ≤ 64
 
 module _ {s t : List ℕ} {o u : Order} {x y : OrderHead} (h : HeadOf s o x) (k : HeadOf t u y) (n : Sizes) (few-S : n .of-S ≤ 64) (few-T : n .of-T ≤ 64)
     (in-S : OrderInRange (n .of-S) o) (in-T : OrderInRange (n .of-T) u) where
-  -- the pairs of positions and of arcs are few
-  pub paired-few : o .positions * u .positions ≤ 64 → FewPositions x y
-  paired-few few = record {
-    pairs = rw (h .positions, k .positions) few;
-    some-T = rw (k .positions) (in-T .some-positions);
-    few-T = rw (k .positions) (in-T .few-positions);
+  pub pairs-fit : o .positions * u .positions ≤ 64 → PairsFit x y
+  pairs-fit few = record {
+    positions = rw (h .positions, k .positions) few;
     arcs = rw (h .arcs, k .arcs) (mul-le (length (o .arcs)) (length (u .arcs)) (in-S .few-arcs) (in-T .few-arcs));
+    few-T = rw (k .positions) (in-T .few-positions);
   }
 
-  pub paired-order-words : {positions set arcs : ℕ} → positions ≡ x .positions * y .positions
-      → set ≡ mask (x .positions * y .positions) (λ q. bit (x .accepting) (q / y .positions) && bit (y .accepting) (q % y .positions)) → arcs ≡ x .arcs * y .arcs
-      → (positions ∷ []) ++ ((set % W ∷ set / W ∷ []) ++ ((arcs ∷ []) ++ grid (paired-arc (y .positions) (n .of-T)) (slice (x .from) (x .to) s) (slice (y .from) (y .to) t)))
-      ≡ order-words (pair-order n o u)
+  pub paired-order-words : {set : ℕ} → x .positions * y .positions ≤ 64 → set ≡ pair-set (x .positions) (y .positions) (x .accepting) (y .accepting)
+      → (x .positions * y .positions ∷ set % W ∷ set / W ∷ x .arcs * y .arcs ∷ [])
+      ++ paired-grid (n .of-T) s t (record { s = x; t = y }) ≡ order-words (pair-order n o u)
   unfolding order-words pair-order set-words
-  paired-order-words {positions} {set} {arcs} ep es ea =
+  paired-order-words {set} few es =
       let m = u .positions in
-      let same : map arc-word (grid (pair-arc m (n .of-T)) (o .arcs) (u .arcs)) ≡ grid (paired-arc (y .positions) (n .of-T)) (slice (x .from) (x .to) s) (slice (y .from) (y .to) t)
-      = map-grid (pair-arc m (n .of-T)) arc-word arc-word arc-word (paired-arc m (n .of-T)) (o .arcs) (u .arcs)
-      (λ a b i j. ap₂ (λ (c d : Arc). arc-word (pair-arc m (n .of-T) c d)) (sym (back h few-S in-S a i)) (sym (back k few-T in-T b j)))
+      let f = pair-arc m (n .of-T) in
+      let same : map arc-word (grid f (o .arcs) (u .arcs)) ≡ paired-grid (n .of-T) s t (record { s = x; t = y })
+      = map-grid f arc-word arc-word arc-word (paired-arc m (n .of-T)) (o .arcs) (u .arcs)
+      (λ a b i j. ap₂ (λ (c d : Arc). arc-word (f c d)) (sym (back h few-S in-S a i)) (sym (back k few-T in-T b j)))
       ∙ ap (λ (z : ℕ). grid (paired-arc z (n .of-T)) (map arc-word (o .arcs)) (map arc-word (u .arcs))) (sym (k .positions))
       ∙ ap₂ (grid (paired-arc (y .positions) (n .of-T))) (sym (h .words)) (sym (k .words)) in
-      let count : arcs ≡ length (grid (pair-arc m (n .of-T)) (o .arcs) (u .arcs)) = ea ∙ ap₂ _*_ (h .arcs) (k .arcs) ∙ sym (length-grid (pair-arc m (n .of-T)) (o .arcs) (u .arcs)) in
-      let places : positions ≡ o .positions * m = ep ∙ ap₂ _*_ (h .positions) (k .positions) in
+      let count : x .arcs * y .arcs ≡ length (grid f (o .arcs) (u .arcs)) = ap₂ _*_ (h .arcs) (k .arcs) ∙ sym (length-grid f (o .arcs) (u .arcs)) in
+      let places : x .positions * y .positions ≡ o .positions * m = ap₂ _*_ (h .positions) (k .positions) in
       let marks : set ≡ mask (o .positions * m) (has (grid (pair m) (o .accepting) (u .accepting)))
-      = es ∙ rw (h .positions, k .positions, h .accepting, k .accepting) (pairs-mask (in-S .accepting) (in-T .accepting) (in-T .some-positions)) in
+      = es ∙ few-pairs (x .positions) (y .positions) (x .accepting) (y .accepting) few
+      ∙ rw (h .positions, k .positions, h .accepting, k .accepting) (pairs-mask (in-S .accepting) (in-T .accepting) (in-T .some-positions)) in
       rw (places, marks, count, same)

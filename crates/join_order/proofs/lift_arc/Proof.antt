@@ -1,10 +1,10 @@
--- `order::lift_arc` meets its contract.
+-- `lift_arc` meets its contract.
 use native.Mathlib.Omega.{arith}
 use Rattle.model.specs.Sheet.{arc-word}
-use Rattle.compose.proofs.NumberLaws.{few-T}
+use Rattle.join_pairs.proofs.NumberLaws.{few-T}
 use borrow.Author.Needs.{needs}
-use Rattle.compose.proofs.order.lift_arc.Statement.{statement}
-use Rattle.compose.proofs.order.lift_arc.Tie as tie
+use Rattle.join_order.proofs.lift_arc.Statement.{statement}
+use Rattle.join_order.proofs.lift_arc.Tie as tie
 
 pub lift-arc-spec : {M : Type 1} → statement M
 unfolding arc-word

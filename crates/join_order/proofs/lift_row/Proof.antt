@@ -1,15 +1,15 @@
--- `order::lift_row` meets its contract.
+-- `lift_row` meets its contract.
 use Prim.Native.Nat.{_-_}
 use native.Mathlib.Omega.{arith}
 use Rattle.model.specs.Lists.{from, numbers, row}
 use Rattle.model.specs.Compose.{of-other}
-use Rattle.compose.specs.Sides.{side-of, sizes-of}
-use Rattle.compose.specs.Arcs.{lifted-arc}
-use Rattle.compose.proofs.PageLaws.{Left, begun, more, done, kept, from-start, from-next, from-none, row-like, row-next, row-none}
-use Rattle.compose.proofs.NumberLaws.{few-other}
+use Rattle.join_pairs.specs.Sides.{side-of, sizes-of}
+use Rattle.join_order.specs.Arcs.{lifted-arc}
+use Rattle.page.proofs.PageLaws.{Left, begun, more, done, kept, from-start, from-next, from-none, row-like, row-next, row-none}
+use Rattle.join_pairs.proofs.NumberLaws.{few-other}
 use borrow.Author.Needs.{needs}
-use Rattle.compose.proofs.order.lift_row.Statement.{statement}
-use Rattle.compose.proofs.order.lift_row.Tie as tie
+use Rattle.join_order.proofs.lift_row.Statement.{statement}
+use Rattle.join_order.proofs.lift_row.Tie as tie
 
 abbrev Inv-loop : tie.InvT-loop
 Inv-loop w side sizes out₀ at n next₀ other₀ out next other =

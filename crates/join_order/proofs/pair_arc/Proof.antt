@@ -1,8 +1,8 @@
--- `order::pair_arc` meets its contract.
+-- `pair_arc` meets its contract.
 use Rattle.model.specs.Sheet.{arc-word}
 use borrow.Author.Needs.{needs}
-use Rattle.compose.proofs.order.pair_arc.Statement.{statement}
-use Rattle.compose.proofs.order.pair_arc.Tie as tie
+use Rattle.join_order.proofs.pair_arc.Statement.{statement}
+use Rattle.join_order.proofs.pair_arc.Tie as tie
 
 pub pair-arc-spec : {M : Type 1} → statement M
 unfolding arc-word

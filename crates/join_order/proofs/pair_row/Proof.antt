@@ -1,0 +1,41 @@
+-- `pair_row` meets its contract.
+use mathlib.Core.Path.{refl}
+use Prim.Native.Nat.{_-_}
+use lib.Seq.{slice}
+use Rattle.model.specs.Lists.{row}
+use Rattle.join_order.specs.Arcs.{paired-arc}
+use Rattle.join_order.specs.Orders.{arcs-in}
+use Rattle.page.proofs.PageLaws.{Left, begun, more, done, kept, slice-next, slice-none, row-next, row-none}
+use borrow.Author.Needs.{needs}
+use Rattle.join_order.proofs.pair_row.Statement.{statement}
+use Rattle.join_order.proofs.pair_row.Tie as tie
+
+abbrev Inv-loop : tie.InvT-loop
+Inv-loop v words head p out₀ at next₀ i₀ out next i =
+    let f = paired-arc (head .positions) p in
+    Left out₀ at (row f (arcs-in words head) v) out next (row f (slice i (head .to) words) v)
+
+abbrev μ-loop : tie.MeasureT-loop
+μ-loop v words head p out₀ at next₀ i₀ out next i = head .to - i
+
+pub pair-row-spec : {M : Type 1} → statement M
+pair-row-spec =
+    tie.close
+    (tie.spec
+    Inv-loop
+    μ-loop
+    (λ c. begun refl)
+    (λ c. search needs)
+    (λ c. search needs)
+    (λ c κs. search needs)
+    (λ c κs. search needs)
+    (λ c. search needs)
+    (λ c. search needs)
+    (λ c.
+    let put = c .before .before in
+    let turn = put .before .before .before .before in
+    let loop = turn .before .before in
+    let room = loop .before .before .before .pre .0 in
+    more (loop .loop .inv) (row-next _ _ (slice-next _ _ _ (turn .if1 .taken) room) (put .before .pair-arc .ensures)) (put .put .ensures))
+    (λ c. kept (c .before .before .loop .inv))
+    (λ c. done (c .before .before .loop .inv) (row-none _ _ (slice-none _ _ _ (c .if1 .left)))))
