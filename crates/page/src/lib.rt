@@ -136,8 +136,8 @@ pub fn repeat_all(
 pub fn put_set(out: &mut [u32], at: usize, set: u64) -> usize
     ensures { λ r. ⌜ Writes (now (out .entry)) at (set % W ∷ set / W ∷ []) (now (out .exit)) r ⌝ }
 {
-    let next = put(out, at, (set % WORD) as u32);
-    put(out, next, (set / WORD) as u32)
+    let pair = [(set % WORD) as u32, (set / WORD) as u32];
+    copy(&pair, 0, 2, out, at)
 }
 
 // Every number below `k` that is below 64.

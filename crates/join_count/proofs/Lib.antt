@@ -1,0 +1,3 @@
+mod SumWords
+mod StepWords
+pub mod CountWords

@@ -1,0 +1,276 @@
+-- The words of a sum, and of a lifted one.
+use mathlib.Core.Path.{_≡_, refl, sym, ap, ap₂, _∙_, subst}
+use mathlib.Core.Bool.{Bool, true, false, _&&_, and-true, false≢true}
+use mathlib.Core.List.{List, [], _∷_, _++_, map, flatMap, List·Memᴰ·head, List·Memᴰ·tail, List·Memᴰ·not-nil}
+use Prim.Native.Nat.{ℕ, zero, suc, _+_, _-_, _*_, _/_, _%_, _^_, _≤_, _<_}
+use native.Mathlib.Omega.{arith}
+use lib.Arith.{digits-lt}
+use lib.Dec.{eqb}
+use lib.ListN.{length, getD, length-map}
+use lib.Seq.{slice}
+use Rattle.model.specs.Lists.{_∈_, has, only, from, numbers, row, grid, Ascending, SetBelow}
+use Rattle.model.specs.Sheet.{W, mask, set-words, bit, members, Coefficient, signed-word, marks, sum-words, SumInRange}
+use Rattle.model.specs.Compose.{pair, Side, S, T, half, Sizes, coefficient-of, lift-sum}
+use Rattle.model.proofs.Tests.{Told, yea, nay, told, same, eqb-yes, eqb-no, eqb-false}
+use Rattle.model.proofs.ListLaws.{∈-has, has-∈, has-no, ∈-map, map-∈, map-each, each-append, ∈-each, each-∈, ∈-only, only-test, only-eq, from-∈, ∈-numbers, numbers-<, grid-∈, asc-ext, asc-from, asc-grid}
+use Rattle.model.specs.Compose.{of-side, of-pairs}
+use Rattle.model.proofs.Pairs.{either, half-pair, ∈-pairs}
+use Rattle.model.proofs.SetWords.{bit-mask}
+use Rattle.model.proofs.Spans.{word-here, span-right}
+use Rattle.bits.proofs.BitLaws.{mask-like}
+use Rattle.bits.proofs.SetLaws.{words-stand, stands-members}
+use Rattle.parts.specs.Lengths.{sum-length}
+use Rattle.page.specs.Sets.{pair-set}
+use Rattle.page.proofs.SetLaws.{few-pairs}
+use Rattle.page.specs.Page.{repeated}
+use Rattle.join_count.specs.declared.SumHead.{SumHead}
+use Rattle.model.specs.Spans.{SumAt}
+use Rattle.join_count.specs.Counts.{SumOf}
+use Rattle.join_count.specs.Sums.{lifted-times}
+use Rattle.join_pairs.proofs.NumberLaws.{few-S, few-T, half-below}
+use Rattle.join_pairs.specs.Sides.{FewPairs}
+use Rattle.model.proofs.PartLaws.{words-from, words-within}
+
+-- ---- lists of what is made of each element
+
+each-like : {A : Type 0} (f g : A → List ℕ) (l : List A) → ((x : A) → x ∈ l → f x ≡ g x) → flatMap f l ≡ flatMap g l
+unfolding flatMap
+each-like f g [] e = refl
+each-like f g (x ∷ l) e = ap₂ (_++_) (e x (List·Memᴰ·head refl)) (each-like f g l (λ y m. e y (List·Memᴰ·tail m)))
+
+-- each word alone, and the same words each time
+each-self : (ws : List ℕ) → flatMap (λ w. w ∷ []) ws ≡ ws
+unfolding flatMap
+each-self [] = refl
+each-self (w ∷ ws) = ap (λ (r : List ℕ). w ∷ r) (each-self ws)
+
+each-repeated : (ws : List ℕ) (n q : ℕ) → flatMap (λ i. ws) (from n q) ≡ repeated n ws
+unfolding flatMap from repeated
+each-repeated ws zero q = refl
+each-repeated ws (suc n) q = ap (λ (r : List ℕ). ws ++ r) (each-repeated ws n (suc q))
+
+repeated-empty : (n : ℕ) → repeated n [] ≡ []
+unfolding repeated
+repeated-empty zero = refl
+repeated-empty (suc n) = repeated-empty n
+
+-- ---- the pairs of states, row by row
+
+each-row : (f : ℕ → List ℕ) (p s : ℕ) (l : List ℕ) → flatMap f (row (pair p) l s) ≡ flatMap (λ t. f (pair p s t)) l
+unfolding row flatMap
+each-row f p s [] = refl
+each-row f p s (t ∷ l) = ap (λ (r : List ℕ). f (pair p s t) ++ r) (each-row f p s l)
+
+each-grid : (f : ℕ → List ℕ) (p : ℕ) (l m : List ℕ) → flatMap f (grid (pair p) l m) ≡ flatMap (λ s. flatMap (λ t. f (pair p s t)) m) l
+unfolding grid flatMap
+each-grid f p [] m = refl
+each-grid f p (s ∷ l) m = each-append f (row (pair p) m s) (grid (pair p) l m) ∙ ap₂ (_++_) (each-row f p s m) (each-grid f p l m)
+
+abbrev states : Sizes → Side → List ℕ
+states n side = numbers (of-side side n)
+
+-- one row for each state of S, in which T's state goes through all of them
+module _ (n : Sizes) (some : 1 ≤ n .of-T) where
+  row-by-row : numbers (of-pairs n) ≡ grid (pair (n .of-T)) (states n S) (states n T)
+  row-by-row =
+      asc-ext _ _ (asc-from (of-pairs n) 0) (asc-grid (n .of-T) (states n S) (states n T) (asc-from (n .of-S) 0) (asc-from (n .of-T) 0) (λ t m. numbers-< (n .of-T) m))
+      (λ x m. ∈-pairs (n .of-T) (states n) (λ t k. numbers-< (n .of-T) k) x .1 (λ side. ∈-numbers (of-side side n) (half-below side n some (numbers-< (of-pairs n) m))))
+      (λ x m.
+      let (s, t, i, j, e) = grid-∈ (pair (n .of-T)) (states n S) (states n T) m in
+      ∈-numbers (of-pairs n) (rw e (digits-lt (numbers-< (n .of-S) i) (numbers-< (n .of-T) j))))
+
+  each-half : (f : ℕ → List ℕ) (side : Side)
+      → flatMap (λ x. f (half side (n .of-T) x)) (numbers (of-pairs n)) ≡ flatMap (λ s. flatMap (λ t. f (either s t side)) (states n T)) (states n S)
+  each-half f side =
+      ap (flatMap (λ x. f (half side (n .of-T) x))) row-by-row ∙ each-grid (λ x. f (half side (n .of-T) x)) (n .of-T) (states n S) (states n T)
+      ∙ each-like _ _ (states n S) (λ s _. each-like _ _ (states n T) (λ t m. ap f (half-pair side (either s t) (numbers-< (n .of-T) m))))
+
+-- ---- the coefficient of a state
+
+abbrev pub times-words : List Coefficient → List ℕ
+times-words cs = map (λ c. signed-word (c .times)) cs
+
+-- the words of the coefficients of state q: one or none
+times-at : List Coefficient → ℕ → List ℕ
+times-at cs q = flatMap (λ c. only (eqb (c .state) q) (signed-word (c .times))) cs
+
+times-of : (cs : List Coefficient) (q x : ℕ) → times-words (coefficient-of cs q x) ≡ times-at cs q
+unfolding coefficient-of times-at only
+times-of cs q x = map-each (λ (c : Coefficient). signed-word (c .times)) _ cs ∙ each-like _ _ cs (λ c _. go (eqb (c .state) q) c)
+  where
+    go : (b : Bool) (c : Coefficient) → times-words (only b (record { state = x; times = c .times })) ≡ only b (signed-word (c .times))
+    go true c = refl
+    go false c = refl
+
+times-none : (cs : List Coefficient) (q : ℕ) → (q ∈ marks cs → ⊥) → times-at cs q ≡ []
+unfolding times-at flatMap only
+times-none [] q h = refl
+times-none (c ∷ cs) q h =
+    let e : eqb (c .state) q ≡ false = eqb-false (λ e. h (List·Memᴰ·head (sym e))) in
+    rw e (times-none cs q (λ m. h (List·Memᴰ·tail m)))
+
+-- f of the words at each of k states from a on is f of each word, where the coefficients are of those states and ascend
+module _ (f : List ℕ → List ℕ) (empty : f [] ≡ []) where
+  each-state : (k a : ℕ) (cs : List Coefficient) → Ascending (marks cs) → ((q : ℕ) → q ∈ marks cs → (a ≤ q) × (q < a + k))
+      → flatMap (λ q. f (times-at cs q)) (from k a) ≡ flatMap (λ w. f (w ∷ [])) (times-words cs)
+  unfolding flatMap from times-at only
+  each-state zero a [] asc h = refl
+  each-state zero a (c ∷ cs) asc h = let (l, m) = h (c .state) (List·Memᴰ·head refl) in absurd (omega arith)
+  each-state (suc k) a [] asc h = ap₂ (_++_) empty (each-state k (suc a) [] tt (λ q m. absurd (List·Memᴰ·not-nil m)))
+  each-state (suc k) a (c ∷ cs) (above, asc) h =
+      go (told (eqb (c .state) a)) (λ b. each-state k (suc a) cs asc b) (λ b. each-state k (suc a) (c ∷ cs) (above, asc) b)
+    where
+      w : ℕ
+      w = signed-word (c .times)
+
+      Bounds : List Coefficient → Type 0
+      Bounds ds = (q : ℕ) → q ∈ marks ds → (suc a ≤ q) × (q < suc a + k)
+
+      Rest : List Coefficient → Type 0
+      Rest ds = flatMap (λ q. f (times-at ds q)) (from k (suc a)) ≡ flatMap (λ w. f (w ∷ [])) (times-words ds)
+
+      lowest : (q : ℕ) → q ∈ marks (c ∷ cs) → c .state ≤ q
+      lowest q (List·Memᴰ·head e) = omega arith
+      lowest q (List·Memᴰ·tail m) = let l = above q m in omega arith
+
+      go : Told (eqb (c .state) a) → (Bounds cs → Rest cs) → (Bounds (c ∷ cs) → Rest (c ∷ cs))
+          → f (times-at (c ∷ cs) a) ++ flatMap (λ q. f (times-at (c ∷ cs) q)) (from k (suc a)) ≡ f (w ∷ []) ++ flatMap (λ w. f (w ∷ [])) (times-words cs)
+      go (yea e) rest all =
+          let first : c .state ≡ a = same (c .state) a e in
+          let here : times-at (c ∷ cs) a ≡ w ∷ [] = rw (e, times-none cs a (λ m. let l = above a m in absurd (omega arith))) in
+          let later : flatMap (λ q. f (times-at (c ∷ cs) q)) (from k (suc a)) ≡ flatMap (λ q. f (times-at cs q)) (from k (suc a))
+          = each-like _ _ (from k (suc a)) (λ q m. let (l, _) = from-∈ k (suc a) m in let other : eqb (c .state) q ≡ false = eqb-false {m = c .state} {n = q} (λ i. omega arith) in rw other) in
+          ap₂ (_++_) (ap f here) (later ∙ rest (λ q m. let l = above q m in let (_, u) = h q (List·Memᴰ·tail m) in (omega arith, omega arith)))
+      go (nay e) rest all =
+          let (low, _) = h (c .state) (List·Memᴰ·head refl) in
+          let later : a < c .state = omega (arith, eqb-no {m = c .state} {n = a} e) in
+          let none : times-at (c ∷ cs) a ≡ [] = times-none (c ∷ cs) a (λ m. let l = lowest a m in absurd (omega arith)) in
+          let ws = flatMap (λ q. f (times-at (c ∷ cs) q)) (from k (suc a)) in
+          ap (λ (v : List ℕ). v ++ ws) (ap f none ∙ empty) ∙ all (λ q m. let l = lowest q m in let (_, u) = h q m in (omega arith, omega arith))
+
+-- ---- the words of a sum
+
+-- over at most 64 states, as the code reads it
+module _ {p a : ℕ} {s : List ℕ} {cs : List Coefficient} (few : p ≤ 64) (h : SumAt p s a cs) where
+  abbrev sum-set : ℕ
+  sum-set = mask p (has (marks cs))
+
+  low-word : getD s a 0 ≡ sum-set % W
+  unfolding sum-words set-words
+  low-word = word-here (h .there)
+
+  high-word : getD s (a + 1) 0 ≡ sum-set / W
+  unfolding sum-words set-words
+  high-word = word-here (span-right (sum-set % W ∷ []) (sum-set / W ∷ times-words cs) (h .there))
+
+  -- there are as many coefficients as marks
+  pub sum-long : sum-length (getD s a 0) (getD s (a + 1) 0) ≡ length (sum-words p cs)
+  unfolding sum-words set-words sum-length
+  sum-long =
+      let below : SetBelow 64 (marks cs)
+      = record { ascends = h .ranges .marked .ascends; below = λ q i. let l = h .ranges .marked .below q i in omega arith } in
+      let all : members 64 (sum-set % W + sum-set / W * W) ≡ marks cs = stands-members (words-stand p (marks cs) few (h .ranges .marked) refl) below in
+      rw (low-word, high-word, all) (omega (arith, length-map cs (λ c. c .state), length-map cs (λ c. signed-word (c .times))))
+
+  pub sum-end : a + sum-length (getD s a 0) (getD s (a + 1) 0) ≤ length s
+  unfolding sum-words set-words
+  sum-end = omega (arith, sum-long, words-within (h .there) (omega arith), h .there .ends)
+
+  pub sum-of : {set long : ℕ} → set ≡ getD s a 0 + getD s (a + 1) 0 * W → long ≡ sum-length (getD s a 0) (getD s (a + 1) 0)
+      → SumOf p s a cs (record { marks = set; from = a + 2; to = a + long })
+  unfolding sum-words set-words
+  sum-of {set} {long} es el =
+      let body = span-right (sum-set % W ∷ sum-set / W ∷ []) (times-words cs) (h .there) in
+      let last : a + long ≡ h .end = omega (arith, sum-long, h .there .ends) in
+      record {
+        marks = omega (arith, low-word, high-word);
+        words = ap (λ (e : ℕ). slice (a + 2) e s) last ∙ words-from body (omega (arith, sum-end, sum-long));
+        ends = last ∙ h .there .ends;
+      }
+
+-- ---- the words of a lifted sum
+
+bit-mark : {p a : ℕ} {s : List ℕ} {cs : List Coefficient} {x : SumHead} → SumOf p s a cs x → (q : ℕ) → q < p → bit (x .marks) q ≡ has (marks cs) q
+bit-mark {p} {cs = cs} h q l = ap (λ (n : ℕ). bit n q) (h .marks) ∙ bit-mask p (has (marks cs)) q l
+
+-- a pair is marked in a lifted sum if its half is marked
+module _ (side : Side) (n : Sizes) (cs : List Coefficient) {x : ℕ} (l : x < of-pairs n) where
+  abbrev lifted-mark : ℕ
+  lifted-mark = half side (n .of-T) x
+
+  abbrev one-time : ℕ → Coefficient → List Coefficient
+  one-time y d = only (eqb (d .state) (half side (n .of-T) y)) (record { state = y; times = d .times })
+
+  marked-there : x ∈ marks (lift-sum side n cs) → lifted-mark ∈ marks cs
+  unfolding lift-sum coefficient-of
+  marked-there m =
+      let (c, k, e) = map-∈ (λ (c : Coefficient). c .state) (lift-sum side n cs) m in
+      let (y, _, j) = each-∈ (λ y. coefficient-of cs (half side (n .of-T) y) y) (numbers (of-pairs n)) k in
+      let (d, i, t) = each-∈ (one-time y) cs j in
+      let is : x ≡ y = e ∙ ap (λ (c : Coefficient). c .state) (only-eq (eqb (d .state) (half side (n .of-T) y)) _ t) in
+      let mark : d .state ≡ lifted-mark = same (d .state) _ (only-test (eqb (d .state) (half side (n .of-T) y)) _ t) ∙ ap (half side (n .of-T)) (sym is) in
+      subst (λ (q : ℕ). q ∈ marks cs) mark (∈-map (λ (c : Coefficient). c .state) i)
+
+  marked-back : lifted-mark ∈ marks cs → x ∈ marks (lift-sum side n cs)
+  unfolding lift-sum coefficient-of
+  marked-back m =
+      let (d, i, e) = map-∈ (λ (c : Coefficient). c .state) cs m in
+      let t = ∈-each (one-time x) i (∈-only (eqb (d .state) lifted-mark) (record { state = x; times = d .times }) (eqb-yes (sym e))) in
+      ∈-map (λ (c : Coefficient). c .state) (∈-each (λ y. coefficient-of cs (half side (n .of-T) y) y) (∈-numbers (of-pairs n) l) t)
+
+  has-lifted : has (marks cs) lifted-mark ≡ has (marks (lift-sum side n cs)) x
+  has-lifted = go (told (has (marks cs) lifted-mark))
+    where
+      go : Told (has (marks cs) lifted-mark) → has (marks cs) lifted-mark ≡ has (marks (lift-sum side n cs)) x
+      go (yea t) = t ∙ sym (∈-has (marked-back (has-∈ (marks cs) t)))
+      go (nay t) = t ∙ sym (has-no (λ m. false≢true (sym t ∙ ∈-has (marked-there m))))
+
+-- the words of the coefficients: each pair has that of its half
+module _ (n : Sizes) (some : 1 ≤ n .of-T) (cs : List Coefficient) where
+  by-state : (side : Side) → SetBelow (of-side side n) (marks cs) → lifted-times side n (times-words cs) ≡ flatMap (λ x. times-at cs (half side (n .of-T) x)) (numbers (of-pairs n))
+  by-state S h =
+      sym (each-half n some (times-at cs) S ∙ each-like _ _ (states n S) (λ s _. each-repeated (times-at cs s) (n .of-T) 0)
+      ∙ each-state (repeated (n .of-T)) (repeated-empty (n .of-T)) (n .of-S) 0 cs (h .ascends) (λ q m. (omega arith, omega (arith, h .below q m))))
+  by-state T h =
+      sym (each-half n some (times-at cs) T ∙ each-repeated (flatMap (times-at cs) (states n T)) (n .of-S) 0
+      ∙ ap (repeated (n .of-S)) (each-state (λ ws. ws) refl (n .of-T) 0 cs (h .ascends) (λ q m. (omega arith, omega (arith, h .below q m))) ∙ each-self (times-words cs)))
+
+  times-lifted : (side : Side) → SetBelow (of-side side n) (marks cs) → lifted-times side n (times-words cs) ≡ times-words (lift-sum side n cs)
+  unfolding lift-sum
+  times-lifted side h =
+      by-state side h ∙ each-like _ _ (numbers (of-pairs n)) (λ x _. sym (times-of cs (half side (n .of-T) x) x))
+      ∙ sym (map-each (λ (c : Coefficient). signed-word (c .times)) (λ x. coefficient-of cs (half side (n .of-T) x) x) (numbers (of-pairs n)))
+
+module _ (side : Side) (n : Sizes) (some : 1 ≤ n .of-T) {a : ℕ} {s : List ℕ} {cs : List Coefficient} {x : SumHead}
+    (h : SumOf (of-side side n) s a cs x) (ranges : SumInRange (of-side side n) cs) where
+  pub lifted-sum-words : {set : ℕ} → set ≡ mask (of-pairs n) (λ y. bit (x .marks) (half side (n .of-T) y))
+      → (set % W ∷ set / W ∷ []) ++ lifted-times side n (slice (x .from) (x .to) s) ≡ sum-words (of-pairs n) (lift-sum side n cs)
+  unfolding sum-words set-words
+  lifted-sum-words {set} e =
+      let marked : (y : ℕ) → y < of-pairs n → bit (x .marks) (half side (n .of-T) y) ≡ has (marks (lift-sum side n cs)) y
+      = λ y l. bit-mark h (half side (n .of-T) y) (half-below side n some l) ∙ has-lifted side n cs l in
+      let same-marks : set ≡ mask (of-pairs n) (has (marks (lift-sum side n cs))) = e ∙ mask-like (of-pairs n) _ _ marked in
+      rw (same-marks, h .words, times-lifted n some cs side (ranges .marked))
+
+-- ---- the marks of a lifted sum: the pairs of which one half is in a set and the other any number below 64
+
+bit-all : (i : ℕ) → i < 64 → bit (2 ^ 64 - 1) i ≡ true
+unfolding mask
+bit-all i h = bit-mask 64 (λ _. true) i h
+
+module _ {n : Sizes} (few : FewPairs n) (m : ℕ) where
+  abbrev lifted-marks : Side → ℕ
+  lifted-marks side = mask (of-pairs n) (λ x. bit m (half side (n .of-T) x))
+
+  pub marks-of-S : {r : ℕ} → r ≡ pair-set (n .of-S) (n .of-T) m (2 ^ 64 - 1) → r ≡ lifted-marks S
+  marks-of-S e =
+      e ∙ few-pairs (n .of-S) (n .of-T) m (2 ^ 64 - 1) (few .few)
+      ∙ mask-like (of-pairs n) _ _ (λ x l.
+      ap (λ (b : Bool). bit m (x / n .of-T) && b) (bit-all (x % n .of-T) (omega (arith, half-below T n (few .some-T) l, few-T few)))
+      ∙ and-true (bit m (x / n .of-T)))
+
+  pub marks-of-T : {r : ℕ} → r ≡ pair-set (n .of-S) (n .of-T) (2 ^ 64 - 1) m → r ≡ lifted-marks T
+  marks-of-T e =
+      e ∙ few-pairs (n .of-S) (n .of-T) (2 ^ 64 - 1) m (few .few)
+      ∙ mask-like (of-pairs n) _ _ (λ x l.
+      ap (λ (b : Bool). b && bit m (x % n .of-T)) (bit-all (x / n .of-T) (omega (arith, half-below S n (few .some-T) l, few-S few))))

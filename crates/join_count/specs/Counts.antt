@@ -1,0 +1,85 @@
+-- Count parts among the words of the two sheets, and what is written of them.
+use mathlib.Core.Path.{_≡_}
+use mathlib.Core.List.{List, map, flatMap}
+use Prim.Native.Nat.{ℕ, _+_, _≤_, _<_}
+use lib.ListN.{length, getD}
+use lib.Seq.{slice}
+use Rattle.model.specs.Lists.{has}
+use Rattle.model.specs.Sheet.{Coefficient, Step, mask, marks, signed-word, sum-words, step-words, count-words}
+use Rattle.model.specs.Compose.{of-side, of-pairs, lift-sum, lift-step}
+use Rattle.model.specs.Spans.{SumAt, StepAt, StepsAt, CountAt}
+use Rattle.join_pairs.specs.declared.Side.{Side}
+use Rattle.join_pairs.specs.declared.Sizes.{Sizes}
+use Rattle.join_pairs.specs.declared.Places.{Places}
+use Rattle.join_pairs.specs.Sides.{side-of, sizes-of, FewPairs}
+use Rattle.join_count.specs.Sums.{joint-steps}
+use Rattle.join_count.specs.declared.SumHead.{SumHead}
+use Rattle.join_count.specs.declared.Lift.{Lift}
+
+-- a count part over p states is at c
+abbrev pub SomeCount : ℕ → List ℕ → ℕ → Type 0
+SomeCount p s c = (ss : List Step) × CountAt p s c ss
+
+-- what is written of the count part at c, and of two count parts
+abbrev pub LiftsCount : Side → Sizes → List ℕ → ℕ → (List ℕ → Type 0) → Type 0
+LiftsCount side n s c Written =
+    (ss : List Step) → CountAt (of-side (side-of side) (sizes-of n)) s c ss
+    → Written (count-words (of-pairs (sizes-of n)) (map (lift-step (side-of side) (sizes-of n) 0) ss))
+
+abbrev pub JoinsCounts : Sizes → (u v : List ℕ) → Places → (List ℕ → Type 0) → Type 0
+JoinsCounts n u v at Written =
+    (ss ts : List Step) → CountAt (n .s) u (at .s) ss → CountAt (n .t) v (at .t) ts
+    → Written (count-words (of-pairs (sizes-of n)) (joint-steps (sizes-of n) ss ts))
+
+-- ---- sums
+
+-- what the code finds of a sum over p states at a
+pub record SumOf (p : ℕ) (s : List ℕ) (a : ℕ) (cs : List Coefficient) (h : SumHead) : Type 0 where
+  pub marks : h .marks ≡ mask p (has (marks cs))
+  pub words : slice (h .from) (h .to) s ≡ map (λ c. signed-word (c .times)) cs
+  pub ends : h .to ≡ a + length (sum-words p cs)
+
+-- a sum that the code found
+pub record FoundSum (side : Side) (n : Sizes) (s : List ℕ) (h : SumHead) : Type 0 where
+  pub at : ℕ
+  pub coefficients : List Coefficient
+  pub is : SumAt (of-side (side-of side) (sizes-of n)) s at coefficients
+  pub found : SumOf (of-side (side-of side) (sizes-of n)) s at coefficients h
+
+-- what is written of it
+abbrev pub LiftsSum : Side → Sizes → List ℕ → SumHead → (List ℕ → Type 0) → Type 0
+LiftsSum side n s h Written =
+    (v : FoundSum side n s h) → Written (sum-words (of-pairs (sizes-of n)) (lift-sum (side-of side) (sizes-of n) (v .coefficients)))
+
+-- ---- steps
+
+-- how many states the steps' sheet has, and how many pairs there are
+abbrev pub states-of : Lift → ℕ
+states-of l = of-side (side-of (l .side)) (sizes-of (l .sizes))
+
+abbrev pub pairs-of : Lift → ℕ
+pairs-of l = of-pairs (sizes-of (l .sizes))
+
+pub record SmallLift (l : Lift) : Type 0 where
+  pub few : FewPairs (sizes-of (l .sizes))
+  pub shift : l .shift ≤ 32
+
+-- a step, and n steps, over the sheet's states
+abbrev pub SomeStep : Lift → List ℕ → ℕ → Type 0
+SomeStep l s a = (x : Step) × StepAt (states-of l) s a x
+
+pub record SomeSteps (l : Lift) (s : List ℕ) (a n : ℕ) : Type 0 where
+  pub steps : List Step
+  pub are : StepsAt (states-of l) s a steps
+  pub number : length steps ≡ n
+
+-- what is written of them
+abbrev pub lifts : Lift → Step → Step
+lifts l = lift-step (side-of (l .side)) (sizes-of (l .sizes)) (l .shift)
+
+abbrev pub LiftsStep : Lift → List ℕ → ℕ → (List ℕ → Type 0) → Type 0
+LiftsStep l s a Written = (x : Step) → StepAt (states-of l) s a x → Written (step-words (pairs-of l) (lifts l x))
+
+abbrev pub LiftsSteps : Lift → List ℕ → (a n : ℕ) → (List ℕ → Type 0) → Type 0
+LiftsSteps l s a n Written =
+    (ss : List Step) → StepsAt (states-of l) s a ss → length ss ≡ n → Written (flatMap (step-words (pairs-of l)) (map (lifts l) ss))
