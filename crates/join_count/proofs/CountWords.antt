@@ -1,17 +1,20 @@
 -- The words of a count part, and of joint ones.
 use mathlib.Core.Path.{_≡_, sym, ap, _∙_, subst}
-use mathlib.Core.List.{List, [], _∷_, _++_, map, flatMap, List·Memᴰ·head, List·Memᴰ·tail, List·Memᴰ·not-nil}
+use mathlib.Core.List.{List, [], _∷_, _++_, map, flatMap, append-assoc, List·Memᴰ·head, List·Memᴰ·tail, List·Memᴰ·not-nil}
 use Prim.Native.Nat.{ℕ, suc, _+_, _-_, _≤_, _<_}
 use native.Mathlib.Omega.{arith}
 use lib.ListN.{length, getD, length-append, length-map}
 use Rattle.model.specs.Lists.{_∈_}
 use Rattle.model.specs.Sheet.{Step, at-most, remainder, not-step, and-step, or-step, step-words, count-words, StepInRange, StepsInRange}
-use Rattle.model.specs.Compose.{S, T, Sizes, lift-step}
+use Rattle.model.specs.Compose.{S, T, lift-step}
 use Rattle.model.proofs.ListLaws.{each-append}
 use Rattle.model.specs.Compose.{of-pairs}
 use Rattle.model.proofs.Spans.{word-there, word-here, word-next}
 use Rattle.model.specs.Spans.{StepsAt, CountAt}
+use Rattle.join_pairs.specs.declared.Sizes.{Sizes}
+use Rattle.join_pairs.specs.Sides.{sizes-of}
 use Rattle.join_count.specs.Sums.{joint-steps}
+use Rattle.join_count.specs.Counts.{both-lifted}
 
 -- steps refer to steps below 32, as there are no more
 in-32 : (p i : ℕ) (x : Step) → i ≤ 32 → StepInRange p i x → StepInRange p 32 x
@@ -46,22 +49,23 @@ count-fields {p} {ss = ss} h = record {
 
 -- ---- lifted count parts, and two in one
 
-pub lifted-count-words : (p : ℕ) (f : Step → Step) (ss : List Step) {n : ℕ} → length ss ≡ n → (n ∷ []) ++ flatMap (step-words p) (map f ss) ≡ count-words p (map f ss)
+pub lifted-count-words : (p : ℕ) (f : Step → Step) (ss : List Step) {n : ℕ} → length ss ≡ n
+    → (n ∷ []) ++ flatMap (step-words p) (map f ss) ≡ count-words p (map f ss)
 unfolding count-words
 lifted-count-words p f ss e = rw (length-map ss f, e)
 
 pub joint-count-words : (n : Sizes) (ss ts : List Step) {k l : ℕ} → length ss ≡ k → length ts ≡ l
-    → ((k + l + 1) ∷ []) ++ (flatMap (step-words (of-pairs n)) (map (lift-step S n 0) ss) ++ (flatMap (step-words (of-pairs n)) (map (lift-step T n k) ts)
-    ++ (4 ∷ (k - 1) ∷ (k + (l - 1)) ∷ [])))
-    ≡ count-words (of-pairs n) (joint-steps n ss ts)
+    → ((k + l + 1) ∷ []) ++ (both-lifted n ss ts ++ (4 ∷ (k - 1) ∷ (k + (l - 1)) ∷ [])) ≡ count-words (of-pairs (sizes-of n)) (joint-steps (sizes-of n) ss ts)
 unfolding count-words flatMap step-words
-joint-count-words n ss ts {k} {l} ek el =
+joint-count-words m ss ts {k} {l} ek el =
+    let n = sizes-of m in
     let words = step-words (of-pairs n) in
     let lower = map (lift-step S n 0) ss in
     let upper = map (lift-step T n (length ss)) ts in
     let last = and-step (length ss - 1) (length ss + (length ts - 1)) ∷ [] in
     let number : k + l + 1 ≡ length (lower ++ (upper ++ last))
     = omega (arith, length-append lower (upper ++ last), length-append upper last, length-map ss (lift-step S n 0), length-map ts (lift-step T n (length ss))) in
-    let parts : flatMap words (lower ++ (upper ++ last)) ≡ flatMap words lower ++ (flatMap words upper ++ flatMap words last)
-    = each-append words lower (upper ++ last) ∙ ap (λ (ws : List ℕ). flatMap words lower ++ ws) (each-append words upper last) in
+    let parts : flatMap words (lower ++ (upper ++ last)) ≡ both-lifted m ss ts ++ flatMap words last
+    = each-append words lower (upper ++ last) ∙ ap (λ (ws : List ℕ). flatMap words lower ++ ws) (each-append words upper last)
+    ∙ sym (append-assoc (flatMap words lower) (flatMap words upper) (flatMap words last)) in
     rw (number, parts, ek, el)

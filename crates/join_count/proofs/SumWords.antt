@@ -25,7 +25,7 @@ use Rattle.page.proofs.SetLaws.{few-pairs}
 use Rattle.page.specs.Page.{repeated}
 use Rattle.join_count.specs.declared.SumHead.{SumHead}
 use Rattle.model.specs.Spans.{SumAt}
-use Rattle.join_count.specs.Counts.{SumOf}
+use Rattle.join_count.specs.Counts.{times-in, SumOf}
 use Rattle.join_count.specs.Sums.{lifted-times}
 use Rattle.join_pairs.proofs.NumberLaws.{few-S, few-T, half-below}
 use Rattle.join_pairs.specs.Sides.{FewPairs}
@@ -244,7 +244,7 @@ module _ (n : Sizes) (some : 1 ≤ n .of-T) (cs : List Coefficient) where
 module _ (side : Side) (n : Sizes) (some : 1 ≤ n .of-T) {a : ℕ} {s : List ℕ} {cs : List Coefficient} {x : SumHead}
     (h : SumOf (of-side side n) s a cs x) (ranges : SumInRange (of-side side n) cs) where
   pub lifted-sum-words : {set : ℕ} → set ≡ mask (of-pairs n) (λ y. bit (x .marks) (half side (n .of-T) y))
-      → (set % W ∷ set / W ∷ []) ++ lifted-times side n (slice (x .from) (x .to) s) ≡ sum-words (of-pairs n) (lift-sum side n cs)
+      → (set % W ∷ set / W ∷ []) ++ lifted-times side n (times-in s x) ≡ sum-words (of-pairs n) (lift-sum side n cs)
   unfolding sum-words set-words
   lifted-sum-words {set} e =
       let marked : (y : ℕ) → y < of-pairs n → bit (x .marks) (half side (n .of-T) y) ≡ has (marks (lift-sum side n cs)) y

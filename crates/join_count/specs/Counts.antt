@@ -1,13 +1,13 @@
 -- Count parts among the words of the two sheets, and what is written of them.
 use mathlib.Core.Path.{_≡_}
-use mathlib.Core.List.{List, map, flatMap}
-use Prim.Native.Nat.{ℕ, _+_, _≤_, _<_}
-use lib.ListN.{length, getD}
+use mathlib.Core.List.{List, _++_, map, flatMap}
+use Prim.Native.Nat.{ℕ, _+_, _≤_}
+use lib.ListN.{length}
 use lib.Seq.{slice}
 use Rattle.model.specs.Lists.{has}
 use Rattle.model.specs.Sheet.{Coefficient, Step, mask, marks, signed-word, sum-words, step-words, count-words}
-use Rattle.model.specs.Compose.{of-side, of-pairs, lift-sum, lift-step}
-use Rattle.model.specs.Spans.{SumAt, StepAt, StepsAt, CountAt}
+use Rattle.model.specs.Compose.{S, T, of-side, of-pairs, lift-sum, lift-step}
+use Rattle.model.specs.Spans.{SumAt, StepAt, CountAt}
 use Rattle.join_pairs.specs.declared.Side.{Side}
 use Rattle.join_pairs.specs.declared.Sizes.{Sizes}
 use Rattle.join_pairs.specs.declared.Places.{Places}
@@ -33,11 +33,22 @@ JoinsCounts n u v at Written =
 
 -- ---- sums
 
+-- the words of its coefficients
+abbrev pub times-in : List ℕ → SumHead → List ℕ
+times-in s h = slice (h .from) (h .to) s
+
 -- what the code finds of a sum over p states at a
 pub record SumOf (p : ℕ) (s : List ℕ) (a : ℕ) (cs : List Coefficient) (h : SumHead) : Type 0 where
   pub marks : h .marks ≡ mask p (has (marks cs))
-  pub words : slice (h .from) (h .to) s ≡ map (λ c. signed-word (c .times)) cs
+  pub words : times-in s h ≡ map (λ c. signed-word (c .times)) cs
   pub ends : h .to ≡ a + length (sum-words p cs)
+
+-- over at most 64 states
+abbrev pub SomeSum : List ℕ → ℕ → Type 0
+SomeSum s a = (p : ℕ) × (cs : List Coefficient) × (p ≤ 64) × SumAt p s a cs
+
+abbrev pub FindsSum : List ℕ → ℕ → SumHead → Type 0
+FindsSum s a h = (p : ℕ) (cs : List Coefficient) → p ≤ 64 → SumAt p s a cs → SumOf p s a cs h
 
 -- a sum that the code found
 pub record FoundSum (side : Side) (n : Sizes) (s : List ℕ) (h : SumHead) : Type 0 where
@@ -64,22 +75,26 @@ pub record SmallLift (l : Lift) : Type 0 where
   pub few : FewPairs (sizes-of (l .sizes))
   pub shift : l .shift ≤ 32
 
--- a step, and n steps, over the sheet's states
+-- a step over the sheet's states
 abbrev pub SomeStep : Lift → List ℕ → ℕ → Type 0
 SomeStep l s a = (x : Step) × StepAt (states-of l) s a x
 
-pub record SomeSteps (l : Lift) (s : List ℕ) (a n : ℕ) : Type 0 where
-  pub steps : List Step
-  pub are : StepsAt (states-of l) s a steps
-  pub number : length steps ≡ n
-
--- what is written of them
+-- what is written of a step, and of the steps of a count part
 abbrev pub lifts : Lift → Step → Step
 lifts l = lift-step (side-of (l .side)) (sizes-of (l .sizes)) (l .shift)
 
 abbrev pub LiftsStep : Lift → List ℕ → ℕ → (List ℕ → Type 0) → Type 0
 LiftsStep l s a Written = (x : Step) → StepAt (states-of l) s a x → Written (step-words (pairs-of l) (lifts l x))
 
-abbrev pub LiftsSteps : Lift → List ℕ → (a n : ℕ) → (List ℕ → Type 0) → Type 0
-LiftsSteps l s a n Written =
-    (ss : List Step) → StepsAt (states-of l) s a ss → length ss ≡ n → Written (flatMap (step-words (pairs-of l)) (map (lifts l) ss))
+abbrev pub LiftsSteps : Lift → List ℕ → ℕ → (List ℕ → Type 0) → Type 0
+LiftsSteps l s c Written = (ss : List Step) → CountAt (states-of l) s c ss → Written (flatMap (step-words (pairs-of l)) (map (lifts l) ss))
+
+-- and of the steps of two
+abbrev pub both-lifted : Sizes → (ss ts : List Step) → List ℕ
+both-lifted n ss ts =
+    let words = step-words (of-pairs (sizes-of n)) in
+    flatMap words (map (lift-step S (sizes-of n) 0) ss) ++ flatMap words (map (lift-step T (sizes-of n) (length ss)) ts)
+
+abbrev pub LiftsBoth : Sizes → (u v : List ℕ) → Places → (List ℕ → Type 0) → Type 0
+LiftsBoth n u v at Written =
+    (ss ts : List Step) → CountAt (n .s) u (at .s) ss → CountAt (n .t) v (at .t) ts → Written (both-lifted n ss ts)

@@ -1,17 +1,15 @@
 // Count parts of joint rules: one alone lifted to pairs of states, and two joined.
 ghost use mathlib.Core.Path.{_≡_};
-ghost use mathlib.Core.List.{List};
-ghost use Prim.Native.Nat.{ℕ, _≤_, _<_};
+ghost use Prim.Native.Nat.{_≤_, _<_};
 ghost use lib.ListN.{getD};
-ghost use lib.Seq.{slice};
-ghost use Rattle.model.specs.Sheet.{Coefficient, mask, bit};
+ghost use Rattle.model.specs.Sheet.{mask, bit};
 ghost use Rattle.model.specs.Compose.{half, of-side, of-pairs};
-ghost use Rattle.model.specs.Spans.{SumAt};
 ghost use Rattle.page.specs.Page.{Writes};
 ghost use Rattle.join_pairs.specs.Sides.{side-of, sizes-of, FewPairs};
 ghost use Rattle.join_count.specs.Sums.{lifted-times};
-ghost use Rattle.join_count.specs.Counts.{SomeCount, LiftsCount, JoinsCounts, SumOf, FoundSum, LiftsSum};
-ghost use Rattle.join_count.specs.Counts.{SmallLift, SomeStep, SomeSteps, LiftsStep, LiftsSteps};
+ghost use Rattle.join_count.specs.Counts.{SomeCount, LiftsCount, JoinsCounts};
+ghost use Rattle.join_count.specs.Counts.{times-in, SomeSum, FindsSum, FoundSum, LiftsSum};
+ghost use Rattle.join_count.specs.Counts.{SmallLift, states-of, SomeStep, LiftsStep, LiftsSteps, LiftsBoth};
 use join_pairs::Places;
 use join_pairs::Side;
 use join_pairs::Sizes;
@@ -38,8 +36,8 @@ struct SumHead {
 
 // The sum at `a`.
 fn sum_head(words: &[u32], a: usize) -> SumHead
-    requires { ⌜ ((p : ℕ) × (cs : List Coefficient) × (p ≤ 64) × SumAt p (now words) a cs) ⌝ }
-    ensures { λ r. ⌜ ((p : ℕ) (cs : List Coefficient) → p ≤ 64 → SumAt p (now (words .entry)) a cs → SumOf p (now (words .entry)) a cs r) ⌝ }
+    requires { ⌜ SomeSum (now words) a ⌝ }
+    ensures { λ r. ⌜ FindsSum (now (words .entry)) a r ⌝ }
 {
     SumHead {
         marks: parts::set_at(words, a),
@@ -69,7 +67,8 @@ fn lift_times(
     out: &mut [u32],
     at: usize,
 ) -> usize
-    ensures { λ r. ⌜ Writes (now (out .entry)) at (lifted-times (side-of side) (sizes-of sizes) (slice (sum .from) (sum .to) (now (words .entry)))) (now (out .exit)) r ⌝ }
+    ensures { λ r. ⌜ Writes (now (out .entry)) at (lifted-times (side-of side) (sizes-of sizes) (times-in (now (words .entry)) sum))
+        (now (out .exit)) r ⌝ }
 {
     match side {
         Side::S => repeat_each(words, sum.from, sum.to, sizes.t, out, at),
@@ -137,13 +136,14 @@ fn lift_step(words: &[u32], a: usize, lift: Lift, out: &mut [u32], at: usize) ->
     shift_step(words, a, lift, out, at)
 }
 
-// Writes the `n` steps from `a` on, lifted.
-fn lift_steps(words: &[u32], a: usize, n: u32, lift: Lift, out: &mut [u32], at: usize) -> usize
-    requires { ⌜ SmallLift lift × SomeSteps lift (now words) a n ⌝ }
-    ensures { λ r. ⌜ LiftsSteps lift (now (words .entry)) a n (λ ws. Writes (now (out .entry)) at ws (now (out .exit)) r) ⌝ }
+// Writes the steps of the count part at `c`, lifted.
+fn lift_steps(words: &[u32], c: usize, lift: Lift, out: &mut [u32], at: usize) -> usize
+    requires { ⌜ SmallLift lift × SomeCount (states-of lift) (now words) c ⌝ }
+    ensures { λ r. ⌜ LiftsSteps lift (now (words .entry)) c (λ ws. Writes (now (out .entry)) at ws (now (out .exit)) r) ⌝ }
 {
+    let n = parts::at(words, c);
     let mut next = at;
-    let mut i = a;
+    let mut i = c + 1;
     let mut k = 0;
     while k < n {
         next = lift_step(words, i, lift, out, next);
@@ -165,14 +165,41 @@ pub fn lift_count(
     requires { ⌜ FewPairs (sizes-of sizes) × SomeCount (of-side (side-of side) (sizes-of sizes)) (now words) c ⌝ }
     ensures { λ r. ⌜ LiftsCount side sizes (now (words .entry)) c (λ ws. Writes (now (out .entry)) at ws (now (out .exit)) r) ⌝ }
 {
-    let n = parts::at(words, c);
-    let counted = put(out, at, n);
+    let counted = put(out, at, parts::at(words, c));
     let lift = Lift {
         side,
         sizes,
         shift: 0,
     };
-    lift_steps(words, c + 1, n, lift, out, counted)
+    lift_steps(words, c, lift, out, counted)
+}
+
+// Writes the steps of the count parts at their places in S and T, lifted, those of T shifted past those of S.
+fn lift_both(
+    first: &[u32],
+    second: &[u32],
+    places: Places,
+    sizes: Sizes,
+    out: &mut [u32],
+    at: usize,
+) -> usize
+    requires { ⌜ FewPairs (sizes-of sizes) × SomeCount (sizes .s) (now first) (places .s) × SomeCount (sizes .t) (now second) (places .t) ⌝ }
+    ensures { λ r. ⌜ LiftsBoth sizes (now (first .entry)) (now (second .entry)) places
+        (λ ws. Writes (now (out .entry)) at ws (now (out .exit)) r) ⌝ }
+{
+    let of_s = Lift {
+        side: Side::S,
+        sizes,
+        shift: 0,
+    };
+    let lower = lift_steps(first, places.s, of_s, out, at);
+    let m = parts::at(first, places.s);
+    let of_t = Lift {
+        side: Side::T,
+        sizes,
+        shift: m,
+    };
+    lift_steps(second, places.t, of_t, out, lower)
 }
 
 // Writes the count parts at their places in S and T, lifted, one after the other, closed by an `and` of their last steps.
@@ -185,22 +212,12 @@ pub fn join_counts(
     at: usize,
 ) -> usize
     requires { ⌜ FewPairs (sizes-of sizes) × SomeCount (sizes .s) (now first) (places .s) × SomeCount (sizes .t) (now second) (places .t) ⌝ }
-    ensures { λ r. ⌜ JoinsCounts sizes (now (first .entry)) (now (second .entry)) places (λ ws. Writes (now (out .entry)) at ws (now (out .exit)) r) ⌝ }
+    ensures { λ r. ⌜ JoinsCounts sizes (now (first .entry)) (now (second .entry)) places
+        (λ ws. Writes (now (out .entry)) at ws (now (out .exit)) r) ⌝ }
 {
     let m = parts::at(first, places.s);
     let n = parts::at(second, places.t);
     let counted = put(out, at, m + n + 1);
-    let of_s = Lift {
-        side: Side::S,
-        sizes,
-        shift: 0,
-    };
-    let lower = lift_steps(first, places.s + 1, m, of_s, out, counted);
-    let of_t = Lift {
-        side: Side::T,
-        sizes,
-        shift: m,
-    };
-    let upper = lift_steps(second, places.t + 1, n, of_t, out, lower);
-    copy(&[AND, m - 1, m + (n - 1)], 0, 3, out, upper)
+    let lifted = lift_both(first, second, places, sizes, out, counted);
+    copy(&[AND, m - 1, m + (n - 1)], 0, 3, out, lifted)
 }

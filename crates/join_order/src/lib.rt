@@ -10,7 +10,8 @@ ghost use Rattle.model.specs.Spans.{OrderAt};
 ghost use Rattle.page.specs.Page.{Writes};
 ghost use Rattle.join_pairs.specs.Sides.{side-of, sizes-of, FewPairs};
 ghost use Rattle.join_order.specs.Arcs.{lifted-arc, lifted-row, lifted-grid, paired-arc};
-ghost use Rattle.join_order.specs.Orders.{SomeOrder, PairableOrders, LiftsOrder, PairsOrders, arcs-in, HeadOf, PairableArcs, paired-grid};
+ghost use Rattle.join_order.specs.Orders.{SomeOrder, PairableOrders, LiftsOrder, PairsOrders};
+ghost use Rattle.join_order.specs.Orders.{arcs-in, HeadOf, PairableArcs, paired-grid};
 use join_pairs::Places;
 use join_pairs::Side;
 use join_pairs::Sizes;
@@ -80,7 +81,8 @@ fn lift_arcs(
     at: usize,
 ) -> usize
     requires { ⌜ (head .to ≤ length (now words)) × FewPairs (sizes-of sizes) ⌝ }
-    ensures { λ r. ⌜ Writes (now (out .entry)) at (lifted-grid (side-of side) (sizes-of sizes) (arcs-in (now (words .entry)) head)) (now (out .exit)) r ⌝ }
+    ensures { λ r. ⌜ Writes (now (out .entry)) at (lifted-grid (side-of side) (sizes-of sizes) (arcs-in (now (words .entry)) head))
+        (now (out .exit)) r ⌝ }
 {
     let mut next = at;
     let mut i = head.from;
@@ -108,7 +110,8 @@ fn pair_arc(v: u32, w: u32, m: u32, p: u32) -> u32
 // Writes an arc of S paired with each arc of T's part, where T has `p` states.
 fn pair_row(v: u32, words: &[u32], head: OrderHead, p: u32, out: &mut [u32], at: usize) -> usize
     requires { ⌜ (head .to ≤ length (now words)) × (head .positions ≤ 64) × (p ≤ 64) ⌝ }
-    ensures { λ r. ⌜ Writes (now (out .entry)) at (row (paired-arc (head .positions) p) (arcs-in (now (words .entry)) head) v) (now (out .exit)) r ⌝ }
+    ensures { λ r. ⌜ Writes (now (out .entry)) at (row (paired-arc (head .positions) p) (arcs-in (now (words .entry)) head) v)
+        (now (out .exit)) r ⌝ }
 {
     let mut next = at;
     let mut i = head.from;
@@ -197,7 +200,8 @@ pub fn pair_order(
     at: usize,
 ) -> usize
     requires { ⌜ FewPairs (sizes-of sizes) × PairableOrders sizes (now first) (now second) places ⌝ }
-    ensures { λ r. ⌜ PairsOrders sizes (now (first .entry)) (now (second .entry)) places (λ ws. Writes (now (out .entry)) at ws (now (out .exit)) r) ⌝ }
+    ensures { λ r. ⌜ PairsOrders sizes (now (first .entry)) (now (second .entry)) places
+        (λ ws. Writes (now (out .entry)) at ws (now (out .exit)) r) ⌝ }
 {
     let s = order_head(first, places.s);
     let t = order_head(second, places.t);

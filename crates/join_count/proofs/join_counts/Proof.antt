@@ -2,30 +2,22 @@
 use mathlib.Core.Path.{sym, _∙_}
 use Prim.Native.Nat.{_≤_}
 use native.Mathlib.Omega.{arith}
-use denote.Ref.{now}
 use Rattle.page.proofs.PageLaws.{then, as-words}
-use Rattle.join_count.proofs.CountWords.{CountFields, count-fields, joint-count-words}
+use Rattle.join_count.proofs.CountWords.{count-fields, joint-count-words}
 use borrow.Author.Needs.{needs}
 use Rattle.join_count.proofs.join_counts.Statement.{statement}
 use Rattle.join_count.proofs.join_counts.Tie as tie
 
--- after the numbers of steps are read
-module _ (c : tie.After-at2) where
-  abbrev begin : tie.Start
-  begin = c .before .before .before .before .before
+-- both have one to 32 steps
+small : (c : tie.After-at2) → (1 ≤ c .before .at .result) × (c .before .at .result ≤ 32) × (1 ≤ c .at2 .result) × (c .at2 .result ≤ 32)
+small c =
+    let (few, in-S, in-T) = c .before .before .before .before .before .pre in
+    let f = count-fields (in-S .1) in
+    let g = count-fields (in-T .1) in
+    (omega arith, omega arith, omega arith, omega arith)
 
-  of-S : CountFields (begin .args .sizes .s) (now (begin .args .first)) (begin .args .places .s) (begin .pre .1 .0)
-  of-S = count-fields (begin .pre .1 .1)
-
-  of-T : CountFields (begin .args .sizes .t) (now (begin .args .second)) (begin .args .places .t) (begin .pre .2 .0)
-  of-T = count-fields (begin .pre .2 .1)
-
-  small : (1 ≤ c .before .at .result) × (c .before .at .result ≤ 32) × (1 ≤ c .at2 .result) × (c .at2 .result ≤ 32)
-  small = (omega (arith, of-S), omega (arith, of-S), omega (arith, of-T), omega (arith, of-T))
-
--- after both count parts are written
-abbrev reads : tie.After-slice-known4 → tie.After-at2
-reads c = let lower = c .before .before .before .before .before .before .before in lower .before .before .before .before .before .before .before
+abbrev reads : tie.After-slice-known3 → tie.After-at2
+reads c = let put = c .before .before .before .before .before .before in put .before .before
 
 pub join-counts-spec : {M : Type 1} → statement M
 join-counts-spec =
@@ -36,18 +28,7 @@ join-counts-spec =
     (λ c. omega (arith, small (c .before)))
     (λ c. omega (arith, small (c .before)))
     (λ c κs. search needs)
-    (λ c. let read = c .before .before .before .before .before in omega (arith, of-S read .there))
-    (λ c κs.
-    let read = c .before .before .before .before .before .before in
-    let few = begin read .pre .0 in
-    (record { few = few; shift = omega arith }, record { steps = _; are = of-S read .steps; number = of-S read .number ∙ sym (read .before .at .ensures) }))
-    (λ c.
-    let read = c .before .before .before .before .before .before .before .before .before .before in
-    omega (arith, of-T read .there))
-    (λ c κs.
-    let read = c .before .before .before .before .before .before .before .before .before .before .before in
-    let few = begin read .pre .0 in
-    (record { few = few; shift = omega (arith, small read) }, record { steps = _; are = of-T read .steps; number = of-T read .number ∙ sym (read .at2 .ensures) }))
+    (λ c κs. search needs)
     (λ c. omega (arith, small (reads c)))
     (λ c. omega (arith, small (reads c)))
     (λ c. omega (arith, small (reads c)))
@@ -56,14 +37,9 @@ join-counts-spec =
     (λ c. search needs)
     (λ c.
     let closing = c .before .before in
-    let upper = closing .before .before .before .before .before in
-    let lower = upper .before .before .before .before .before in
-    let put = lower .before .before .before .before .before in
+    let both = closing .before .before .before .before .before in
+    let put = both .before .before .before .before in
     let read = put .before .before in
     λ ss ts h k.
-    let f = count-fields h in
-    let g = count-fields k in
-    let m = f .number ∙ sym (read .before .at .ensures) in
-    let n = g .number ∙ sym (read .at2 .ensures) in
-    as-words (joint-count-words _ ss ts m n)
-    (then (put .put .ensures) (then (lower .lift-steps .ensures ss (f .steps) m) (then (upper .lift-steps2 .ensures ts (g .steps) n) (closing .copy .ensures))))))
+    as-words (joint-count-words _ ss ts (count-fields h .number ∙ sym (read .before .at .ensures)) (count-fields k .number ∙ sym (read .at2 .ensures)))
+    (then (put .put .ensures) (then (both .lift-both .ensures ss ts h k) (closing .copy .ensures)))))

@@ -13,17 +13,13 @@ lift-count-spec =
     (tie.spec
     (λ c κs. search needs)
     (λ c κs. search needs)
-    (λ c. let start = c .before .before .before .before .before .before .before in omega (arith, count-fields (start .pre .1 .1) .there))
     (λ c κs.
-    let read = c .before .before .before .before .before in
-    let (few, (ss, h)) = read .before .before .before .pre in
-    let f = count-fields h in
-    (record { few = few; shift = omega arith }, record { steps = ss; are = f .steps; number = f .number ∙ sym (read .at .ensures) }))
+    let (few, some) = c .before .before .before .before .before .before .before .before .pre in
+    (record { few = few; shift = omega arith }, some))
     (λ c. search needs)
     (λ c.
     let steps = c .before .before in
     let put = steps .before .before .before .before in
     λ ss h.
-    let f = count-fields h in
-    let number = f .number ∙ sym (put .before .before .at .ensures) in
-    as-words (lifted-count-words _ _ ss number) (then (put .put .ensures) (steps .lift-steps .ensures ss (f .steps) number))))
+    as-words (lifted-count-words _ _ ss (count-fields h .number ∙ sym (put .before .at .ensures)))
+    (then (put .put .ensures) (steps .lift-steps .ensures ss h))))
