@@ -42,7 +42,11 @@ unfolding count-words
 count-fields {p} {ss = ss} h = record {
   there = word-there (h .there);
   number = sym (word-here (h .there));
-  steps = record { end = h .end; there = word-next (h .there); ranges = all-in-32 p 0 ss (omega (arith, h .ranges .few-steps)) (h .ranges .steps) };
+  steps = record {
+    end = h .end;
+    there = word-next (h .there);
+    ranges = all-in-32 p 0 ss (omega (arith, h .ranges .few-steps)) (h .ranges .steps);
+  };
   some = h .ranges .some-steps;
   few = h .ranges .few-steps;
 }
@@ -55,7 +59,8 @@ unfolding count-words
 lifted-count-words p f ss e = rw (length-map ss f, e)
 
 pub joint-count-words : (n : Sizes) (ss ts : List Step) {k l : ℕ} → length ss ≡ k → length ts ≡ l
-    → ((k + l + 1) ∷ []) ++ (both-lifted n ss ts ++ (4 ∷ (k - 1) ∷ (k + (l - 1)) ∷ [])) ≡ count-words (of-pairs (sizes-of n)) (joint-steps (sizes-of n) ss ts)
+    → ((k + l + 1) ∷ []) ++ (both-lifted n ss ts ++ (4 ∷ (k - 1) ∷ (k + (l - 1)) ∷ []))
+    ≡ count-words (of-pairs (sizes-of n)) (joint-steps (sizes-of n) ss ts)
 unfolding count-words flatMap step-words
 joint-count-words m ss ts {k} {l} ek el =
     let n = sizes-of m in
@@ -64,7 +69,8 @@ joint-count-words m ss ts {k} {l} ek el =
     let upper = map (lift-step T n (length ss)) ts in
     let last = and-step (length ss - 1) (length ss + (length ts - 1)) ∷ [] in
     let number : k + l + 1 ≡ length (lower ++ (upper ++ last))
-    = omega (arith, length-append lower (upper ++ last), length-append upper last, length-map ss (lift-step S n 0), length-map ts (lift-step T n (length ss))) in
+    = let all = length-append lower (upper ++ last) in
+    omega (arith, length-append upper last, length-map ss (lift-step S n 0), length-map ts (lift-step T n (length ss))) in
     let parts : flatMap words (lower ++ (upper ++ last)) ≡ both-lifted m ss ts ++ flatMap words last
     = each-append words lower (upper ++ last) ∙ ap (λ (ws : List ℕ). flatMap words lower ++ ws) (each-append words upper last)
     ∙ sym (append-assoc (flatMap words lower) (flatMap words upper) (flatMap words last)) in

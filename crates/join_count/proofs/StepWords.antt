@@ -8,7 +8,8 @@ use lib.Dec.{eqb, leb}
 use lib.ListN.{length, getD, length-append}
 use lib.Seq.{slice}
 use borrow.Author.Tests as tests
-use Rattle.model.specs.Sheet.{Coefficient, Step, at-most, remainder, not-step, and-step, or-step, signed-word, sum-words, step-words, SumInRange}
+use Rattle.model.specs.Sheet.{Coefficient, Step, at-most, remainder, not-step, and-step, or-step}
+use Rattle.model.specs.Sheet.{signed-word, sum-words, step-words, SumInRange}
 use Rattle.model.specs.Compose.{Side, Sizes, lift-sum, lift-step}
 use Rattle.model.specs.Compose.{of-pairs}
 use Rattle.model.specs.Spans.{WordsAt}
@@ -27,7 +28,8 @@ pub record SumStep (p : ℕ) (s : List ℕ) (a : ℕ) (x : Step) : Type 0 where
   pub long : length tail ≡ getD s a 0
   pub words : step-words p x ≡ getD s a 0 ∷ (sum-words p coefficients ++ tail)
   pub rest : {b e : ℕ} → b ≡ a + 1 + length (sum-words p coefficients) → e ≡ a + length (step-words p x) → slice b e s ≡ tail
-  pub lifted : (side : Side) (n : Sizes) (shift : ℕ) → step-words (of-pairs n) (lift-step side n shift x) ≡ getD s a 0 ∷ (sum-words (of-pairs n) (lift-sum side n coefficients) ++ tail)
+  pub lifted : (side : Side) (n : Sizes) (shift : ℕ)
+      → step-words (of-pairs n) (lift-step side n shift x) ≡ getD s a 0 ∷ (sum-words (of-pairs n) (lift-sum side n coefficients) ++ tail)
 
 -- a step that refers to one or two earlier steps
 pub record Refers (p : ℕ) (s : List ℕ) (a : ℕ) (x : Step) : Type 0 where
@@ -37,14 +39,16 @@ pub record Refers (p : ℕ) (s : List ℕ) (a : ℕ) (x : Step) : Type 0 where
 -- to one
 pub record OneNumber (p : ℕ) (s : List ℕ) (a : ℕ) (x : Step) : Type 0 where
   pub long : length (step-words p x) ≡ 2
-  pub lifted : (side : Side) (n : Sizes) (shift : ℕ) → step-words (of-pairs n) (lift-step side n shift x) ≡ getD s a 0 ∷ (shift + getD s (a + 1) 0) ∷ []
+  pub lifted : (side : Side) (n : Sizes) (shift : ℕ)
+      → step-words (of-pairs n) (lift-step side n shift x) ≡ getD s a 0 ∷ (shift + getD s (a + 1) 0) ∷ []
 
 -- to two
 pub record TwoNumbers (p : ℕ) (s : List ℕ) (a : ℕ) (x : Step) : Type 0 where
   pub there : a + 2 < length s
   pub small : getD s (a + 2) 0 < 32
   pub long : length (step-words p x) ≡ 3
-  pub lifted : (side : Side) (n : Sizes) (shift : ℕ) → step-words (of-pairs n) (lift-step side n shift x) ≡ getD s a 0 ∷ (shift + getD s (a + 1) 0) ∷ (shift + getD s (a + 2) 0) ∷ []
+  pub lifted : (side : Side) (n : Sizes) (shift : ℕ)
+      → step-words (of-pairs n) (lift-step side n shift x) ≡ getD s a 0 ∷ (shift + getD s (a + 1) 0) ∷ (shift + getD s (a + 2) 0) ∷ []
 
 step-begins : (p : ℕ) (x : Step) → (k : ℕ) × (ws : List ℕ) × (step-words p x ≡ k ∷ ws)
 unfolding step-words
@@ -61,8 +65,10 @@ module _ {p a : ℕ} {s : List ℕ} where
       let l = word-there (rw e at (h .there)) in
       (l, omega (arith, words-end (h .there) (omega arith), h .there .ends))
 
-  make-sum : {x : Step} {end k : ℕ} (cs : List Coefficient) (tail : List ℕ) → SumInRange p cs → length tail ≡ k → WordsAt s a end (k ∷ (sum-words p cs ++ tail)) → step-words p x ≡ k ∷ (sum-words p cs ++ tail)
-      → ((side : Side) (n : Sizes) (shift : ℕ) → step-words (of-pairs n) (lift-step side n shift x) ≡ k ∷ (sum-words (of-pairs n) (lift-sum side n cs) ++ tail)) → SumStep p s a x
+  make-sum : {x : Step} {end k : ℕ} (cs : List Coefficient) (tail : List ℕ) → SumInRange p cs → length tail ≡ k
+      → WordsAt s a end (k ∷ (sum-words p cs ++ tail)) → step-words p x ≡ k ∷ (sum-words p cs ++ tail)
+      → ((side : Side) (n : Sizes) (shift : ℕ)
+      → step-words (of-pairs n) (lift-step side n shift x) ≡ k ∷ (sum-words (of-pairs n) (lift-sum side n cs) ++ tail)) → SumStep p s a x
   make-sum {x} {end} {k} cs tail ranges long w e lifted =
       let kind : getD s a 0 ≡ k = word-here w in
       let inner = span-right (k ∷ []) (sum-words p cs ++ tail) w in
@@ -93,8 +99,12 @@ module _ {p a : ℕ} {s : List ℕ} where
   refers (at-most cs b) h l = absurd (omega (arith, word-here (h .there)))
   refers (remainder cs m r) h l = absurd (omega (arith, word-here (h .there)))
   refers (not-step i) h l = let w = word-next (h .there) in record { there = word-there w; small = omega (arith, word-here w, h .ranges) }
-  refers (and-step i j) h l = let w = word-next (h .there) in record { there = word-there w; small = omega (arith, word-here w, h .ranges .0) }
-  refers (or-step i j) h l = let w = word-next (h .there) in record { there = word-there w; small = omega (arith, word-here w, h .ranges .0) }
+  refers (and-step i j) h l =
+      let w = word-next (h .there) in
+      record { there = word-there w; small = omega (arith, word-here w, h .ranges .0) }
+  refers (or-step i j) h l =
+      let w = word-next (h .there) in
+      record { there = word-there w; small = omega (arith, word-here w, h .ranges .0) }
 
   pub one-number : (x : Step) → StepAt p s a x → getD s a 0 ≡ 3 → OneNumber p s a x
   unfolding step-words lift-step
@@ -111,17 +121,29 @@ module _ {p a : ℕ} {s : List ℕ} where
   two-numbers (not-step i) h l d = absurd (omega (arith, word-here (h .there)))
   two-numbers (and-step i j) h l d =
       let w = span-right (4 ∷ i ∷ []) (j ∷ []) (h .there) in
-      record { there = word-there w; small = omega (arith, word-here w, h .ranges .1); long = refl; lifted = λ side n shift. rw (word-here (h .there), word-here (word-next (h .there)), word-here w) }
+      record {
+        there = word-there w;
+        small = omega (arith, word-here w, h .ranges .1);
+        long = refl;
+        lifted = λ side n shift. rw (word-here (h .there), word-here (word-next (h .there)), word-here w);
+      }
   two-numbers (or-step i j) h l d =
       let w = span-right (5 ∷ i ∷ []) (j ∷ []) (h .there) in
-      record { there = word-there w; small = omega (arith, word-here w, h .ranges .1); long = refl; lifted = λ side n shift. rw (word-here (h .there), word-here (word-next (h .there)), word-here w) }
+      record {
+        there = word-there w;
+        small = omega (arith, word-here w, h .ranges .1);
+        long = refl;
+        lifted = λ side n shift. rw (word-here (h .there), word-here (word-next (h .there)), word-here w);
+      }
 
   -- lifted, from the words that the code reads
-  module _ (side : Side) (n : Sizes) (shift : ℕ) {x : Step} (h : StepAt p s a x) {k i : ℕ} (ek : k ≡ getD s a 0) (ei : i ≡ getD s (a + 1) 0) where
+  module _ (side : Side) (n : Sizes) (shift : ℕ) {x : Step} (h : StepAt p s a x) {k i : ℕ}
+      (ek : k ≡ getD s a 0) (ei : i ≡ getD s (a + 1) 0) where
     pub shifted-one : k ≡ 3 → k ∷ (shift + i) ∷ [] ≡ step-words (of-pairs n) (lift-step side n shift x)
     shifted-one e = rw (ek, ei) (sym (one-number x h (sym ek ∙ e) .lifted side n shift))
 
-    pub shifted-two : {j : ℕ} → 2 < getD s a 0 → k ≢ 3 → j ≡ getD s (a + 2) 0 → k ∷ (shift + i) ∷ (shift + j) ∷ [] ≡ step-words (of-pairs n) (lift-step side n shift x)
+    pub shifted-two : {j : ℕ} → 2 < getD s a 0 → k ≢ 3 → j ≡ getD s (a + 2) 0
+        → k ∷ (shift + i) ∷ (shift + j) ∷ [] ≡ step-words (of-pairs n) (lift-step side n shift x)
     shifted-two l d ej = rw (ek, ei, ej) (sym (two-numbers x h l (λ e. d (ek ∙ e)) .lifted side n shift))
 
   -- its length, as the code tells it

@@ -12,7 +12,8 @@ use Rattle.model.specs.Lists.{_∈_, has, only, from, numbers, row, grid, Ascen
 use Rattle.model.specs.Sheet.{W, mask, set-words, bit, members, Coefficient, signed-word, marks, sum-words, SumInRange}
 use Rattle.model.specs.Compose.{pair, Side, S, T, half, Sizes, coefficient-of, lift-sum}
 use Rattle.model.proofs.Tests.{Told, yea, nay, told, same, eqb-yes, eqb-no, eqb-false}
-use Rattle.model.proofs.ListLaws.{∈-has, has-∈, has-no, ∈-map, map-∈, map-each, each-append, ∈-each, each-∈, ∈-only, only-test, only-eq, from-∈, ∈-numbers, numbers-<, grid-∈, asc-ext, asc-from, asc-grid}
+use Rattle.model.proofs.ListLaws.{∈-has, has-∈, has-no, ∈-map, map-∈, map-each, each-append, ∈-each, each-∈, ∈-only, only-test, only-eq}
+use Rattle.model.proofs.ListLaws.{from-∈, ∈-numbers, numbers-<, grid-∈, asc-ext, asc-from, asc-grid}
 use Rattle.model.specs.Compose.{of-side, of-pairs}
 use Rattle.model.proofs.Pairs.{either, half-pair, ∈-pairs}
 use Rattle.model.proofs.SetWords.{bit-mask}
@@ -73,16 +74,21 @@ states n side = numbers (of-side side n)
 module _ (n : Sizes) (some : 1 ≤ n .of-T) where
   row-by-row : numbers (of-pairs n) ≡ grid (pair (n .of-T)) (states n S) (states n T)
   row-by-row =
-      asc-ext _ _ (asc-from (of-pairs n) 0) (asc-grid (n .of-T) (states n S) (states n T) (asc-from (n .of-S) 0) (asc-from (n .of-T) 0) (λ t m. numbers-< (n .of-T) m))
-      (λ x m. ∈-pairs (n .of-T) (states n) (λ t k. numbers-< (n .of-T) k) x .1 (λ side. ∈-numbers (of-side side n) (half-below side n some (numbers-< (of-pairs n) m))))
+      asc-ext _ _ (asc-from (of-pairs n) 0)
+      (asc-grid (n .of-T) (states n S) (states n T) (asc-from (n .of-S) 0) (asc-from (n .of-T) 0) (λ t m. numbers-< (n .of-T) m))
+      (λ x m.
+      ∈-pairs (n .of-T) (states n) (λ t k. numbers-< (n .of-T) k) x .1
+      (λ side. ∈-numbers (of-side side n) (half-below side n some (numbers-< (of-pairs n) m))))
       (λ x m.
       let (s, t, i, j, e) = grid-∈ (pair (n .of-T)) (states n S) (states n T) m in
       ∈-numbers (of-pairs n) (rw e (digits-lt (numbers-< (n .of-S) i) (numbers-< (n .of-T) j))))
 
   each-half : (f : ℕ → List ℕ) (side : Side)
-      → flatMap (λ x. f (half side (n .of-T) x)) (numbers (of-pairs n)) ≡ flatMap (λ s. flatMap (λ t. f (either s t side)) (states n T)) (states n S)
+      → flatMap (λ x. f (half side (n .of-T) x)) (numbers (of-pairs n))
+      ≡ flatMap (λ s. flatMap (λ t. f (either s t side)) (states n T)) (states n S)
   each-half f side =
-      ap (flatMap (λ x. f (half side (n .of-T) x))) row-by-row ∙ each-grid (λ x. f (half side (n .of-T) x)) (n .of-T) (states n S) (states n T)
+      ap (flatMap (λ x. f (half side (n .of-T) x))) row-by-row
+      ∙ each-grid (λ x. f (half side (n .of-T) x)) (n .of-T) (states n S) (states n T)
       ∙ each-like _ _ (states n S) (λ s _. each-like _ _ (states n T) (λ t m. ap f (half-pair side (either s t) (numbers-< (n .of-T) m))))
 
 -- ---- the coefficient of a state
@@ -134,19 +140,25 @@ module _ (f : List ℕ → List ℕ) (empty : f [] ≡ []) where
       lowest q (List·Memᴰ·tail m) = let l = above q m in omega arith
 
       go : Told (eqb (c .state) a) → (Bounds cs → Rest cs) → (Bounds (c ∷ cs) → Rest (c ∷ cs))
-          → f (times-at (c ∷ cs) a) ++ flatMap (λ q. f (times-at (c ∷ cs) q)) (from k (suc a)) ≡ f (w ∷ []) ++ flatMap (λ w. f (w ∷ [])) (times-words cs)
+          → f (times-at (c ∷ cs) a) ++ flatMap (λ q. f (times-at (c ∷ cs) q)) (from k (suc a))
+          ≡ f (w ∷ []) ++ flatMap (λ w. f (w ∷ [])) (times-words cs)
       go (yea e) rest all =
           let first : c .state ≡ a = same (c .state) a e in
           let here : times-at (c ∷ cs) a ≡ w ∷ [] = rw (e, times-none cs a (λ m. let l = above a m in absurd (omega arith))) in
           let later : flatMap (λ q. f (times-at (c ∷ cs) q)) (from k (suc a)) ≡ flatMap (λ q. f (times-at cs q)) (from k (suc a))
-          = each-like _ _ (from k (suc a)) (λ q m. let (l, _) = from-∈ k (suc a) m in let other : eqb (c .state) q ≡ false = eqb-false {m = c .state} {n = q} (λ i. omega arith) in rw other) in
-          ap₂ (_++_) (ap f here) (later ∙ rest (λ q m. let l = above q m in let (_, u) = h q (List·Memᴰ·tail m) in (omega arith, omega arith)))
+          = each-like _ _ (from k (suc a)) (λ q m.
+          let (l, _) = from-∈ k (suc a) m in
+          let other : eqb (c .state) q ≡ false = eqb-false {m = c .state} {n = q} (λ i. omega arith) in
+          rw other) in
+          ap₂ (_++_) (ap f here)
+          (later ∙ rest (λ q m. let l = above q m in let (_, u) = h q (List·Memᴰ·tail m) in (omega arith, omega arith)))
       go (nay e) rest all =
           let (low, _) = h (c .state) (List·Memᴰ·head refl) in
           let later : a < c .state = omega (arith, eqb-no {m = c .state} {n = a} e) in
           let none : times-at (c ∷ cs) a ≡ [] = times-none (c ∷ cs) a (λ m. let l = lowest a m in absurd (omega arith)) in
           let ws = flatMap (λ q. f (times-at (c ∷ cs) q)) (from k (suc a)) in
-          ap (λ (v : List ℕ). v ++ ws) (ap f none ∙ empty) ∙ all (λ q m. let l = lowest q m in let (_, u) = h q m in (omega arith, omega arith))
+          ap (λ (v : List ℕ). v ++ ws) (ap f none ∙ empty)
+          ∙ all (λ q m. let l = lowest q m in let (_, u) = h q m in (omega arith, omega arith))
 
 -- ---- the words of a sum
 
@@ -169,7 +181,8 @@ module _ {p a : ℕ} {s : List ℕ} {cs : List Coefficient} (few : p ≤ 64) (h 
   sum-long =
       let below : SetBelow 64 (marks cs)
       = record { ascends = h .ranges .marked .ascends; below = λ q i. let l = h .ranges .marked .below q i in omega arith } in
-      let all : members 64 (sum-set % W + sum-set / W * W) ≡ marks cs = stands-members (words-stand p (marks cs) few (h .ranges .marked) refl) below in
+      let all : members 64 (sum-set % W + sum-set / W * W) ≡ marks cs
+      = stands-members (words-stand p (marks cs) few (h .ranges .marked) refl) below in
       rw (low-word, high-word, all) (omega (arith, length-map cs (λ c. c .state), length-map cs (λ c. signed-word (c .times))))
 
   pub sum-end : a + sum-length (getD s a 0) (getD s (a + 1) 0) ≤ length s
@@ -190,7 +203,8 @@ module _ {p a : ℕ} {s : List ℕ} {cs : List Coefficient} (few : p ≤ 64) (h 
 
 -- ---- the words of a lifted sum
 
-bit-mark : {p a : ℕ} {s : List ℕ} {cs : List Coefficient} {x : SumHead} → SumOf p s a cs x → (q : ℕ) → q < p → bit (x .marks) q ≡ has (marks cs) q
+bit-mark : {p a : ℕ} {s : List ℕ} {cs : List Coefficient} {x : SumHead} → SumOf p s a cs x
+    → (q : ℕ) → q < p → bit (x .marks) q ≡ has (marks cs) q
 bit-mark {p} {cs = cs} h q l = ap (λ (n : ℕ). bit n q) (h .marks) ∙ bit-mask p (has (marks cs)) q l
 
 -- a pair is marked in a lifted sum if its half is marked
@@ -208,7 +222,8 @@ module _ (side : Side) (n : Sizes) (cs : List Coefficient) {x : ℕ} (l : x < of
       let (y, _, j) = each-∈ (λ y. coefficient-of cs (half side (n .of-T) y) y) (numbers (of-pairs n)) k in
       let (d, i, t) = each-∈ (one-time y) cs j in
       let is : x ≡ y = e ∙ ap (λ (c : Coefficient). c .state) (only-eq (eqb (d .state) (half side (n .of-T) y)) _ t) in
-      let mark : d .state ≡ lifted-mark = same (d .state) _ (only-test (eqb (d .state) (half side (n .of-T) y)) _ t) ∙ ap (half side (n .of-T)) (sym is) in
+      let mark : d .state ≡ lifted-mark
+      = same (d .state) _ (only-test (eqb (d .state) (half side (n .of-T) y)) _ t) ∙ ap (half side (n .of-T)) (sym is) in
       subst (λ (q : ℕ). q ∈ marks cs) mark (∈-map (λ (c : Coefficient). c .state) i)
 
   marked-back : lifted-mark ∈ marks cs → x ∈ marks (lift-sum side n cs)
@@ -227,19 +242,25 @@ module _ (side : Side) (n : Sizes) (cs : List Coefficient) {x : ℕ} (l : x < of
 
 -- the words of the coefficients: each pair has that of its half
 module _ (n : Sizes) (some : 1 ≤ n .of-T) (cs : List Coefficient) where
-  by-state : (side : Side) → SetBelow (of-side side n) (marks cs) → lifted-times side n (times-words cs) ≡ flatMap (λ x. times-at cs (half side (n .of-T) x)) (numbers (of-pairs n))
+  by-state : (side : Side) → SetBelow (of-side side n) (marks cs)
+      → lifted-times side n (times-words cs) ≡ flatMap (λ x. times-at cs (half side (n .of-T) x)) (numbers (of-pairs n))
   by-state S h =
       sym (each-half n some (times-at cs) S ∙ each-like _ _ (states n S) (λ s _. each-repeated (times-at cs s) (n .of-T) 0)
-      ∙ each-state (repeated (n .of-T)) (repeated-empty (n .of-T)) (n .of-S) 0 cs (h .ascends) (λ q m. (omega arith, omega (arith, h .below q m))))
+      ∙ each-state (repeated (n .of-T)) (repeated-empty (n .of-T)) (n .of-S) 0 cs (h .ascends)
+      (λ q m. (omega arith, omega (arith, h .below q m))))
   by-state T h =
       sym (each-half n some (times-at cs) T ∙ each-repeated (flatMap (times-at cs) (states n T)) (n .of-S) 0
-      ∙ ap (repeated (n .of-S)) (each-state (λ ws. ws) refl (n .of-T) 0 cs (h .ascends) (λ q m. (omega arith, omega (arith, h .below q m))) ∙ each-self (times-words cs)))
+      ∙ ap (repeated (n .of-S))
+      (each-state (λ ws. ws) refl (n .of-T) 0 cs (h .ascends) (λ q m. (omega arith, omega (arith, h .below q m)))
+      ∙ each-self (times-words cs)))
 
-  times-lifted : (side : Side) → SetBelow (of-side side n) (marks cs) → lifted-times side n (times-words cs) ≡ times-words (lift-sum side n cs)
+  times-lifted : (side : Side) → SetBelow (of-side side n) (marks cs)
+      → lifted-times side n (times-words cs) ≡ times-words (lift-sum side n cs)
   unfolding lift-sum
   times-lifted side h =
       by-state side h ∙ each-like _ _ (numbers (of-pairs n)) (λ x _. sym (times-of cs (half side (n .of-T) x) x))
-      ∙ sym (map-each (λ (c : Coefficient). signed-word (c .times)) (λ x. coefficient-of cs (half side (n .of-T) x) x) (numbers (of-pairs n)))
+      ∙ sym (map-each (λ (c : Coefficient). signed-word (c .times)) (λ x. coefficient-of cs (half side (n .of-T) x) x)
+      (numbers (of-pairs n)))
 
 module _ (side : Side) (n : Sizes) (some : 1 ≤ n .of-T) {a : ℕ} {s : List ℕ} {cs : List Coefficient} {x : SumHead}
     (h : SumOf (of-side side n) s a cs x) (ranges : SumInRange (of-side side n) cs) where

@@ -183,7 +183,8 @@ fn lift_both(
     out: &mut [u32],
     at: usize,
 ) -> usize
-    requires { ⌜ FewPairs (sizes-of sizes) × SomeCount (sizes .s) (now first) (places .s) × SomeCount (sizes .t) (now second) (places .t) ⌝ }
+    requires { ⌜ FewPairs (sizes-of sizes) × SomeCount (sizes .s) (now first) (places .s)
+        × SomeCount (sizes .t) (now second) (places .t) ⌝ }
     ensures { λ r. ⌜ LiftsBoth sizes (now (first .entry)) (now (second .entry)) places
         (λ ws. Writes (now (out .entry)) at ws (now (out .exit)) r) ⌝ }
 {
@@ -211,7 +212,8 @@ pub fn join_counts(
     out: &mut [u32],
     at: usize,
 ) -> usize
-    requires { ⌜ FewPairs (sizes-of sizes) × SomeCount (sizes .s) (now first) (places .s) × SomeCount (sizes .t) (now second) (places .t) ⌝ }
+    requires { ⌜ FewPairs (sizes-of sizes) × SomeCount (sizes .s) (now first) (places .s)
+        × SomeCount (sizes .t) (now second) (places .t) ⌝ }
     ensures { λ r. ⌜ JoinsCounts sizes (now (first .entry)) (now (second .entry)) places
         (λ ws. Writes (now (out .entry)) at ws (now (out .exit)) r) ⌝ }
 {

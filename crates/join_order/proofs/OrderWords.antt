@@ -32,7 +32,8 @@ module _ {A B C : Type 0} (f : A → B → C) (g : C → ℕ) (k : A → ℕ) {D
   map-row [] a e = refl
   map-row (b ∷ bs) a e = ap₂ {C = List ℕ} _∷_ (e b (List·Memᴰ·head refl)) (map-row bs a (λ c m. e c (List·Memᴰ·tail m)))
 
-  map-grid : (as′ : List A) (bs : List B) → ((a : A) (b : B) → a ∈ as′ → b ∈ bs → g (f a b) ≡ h (k a) (j b)) → map g (grid f as′ bs) ≡ grid h (map k as′) (map j bs)
+  map-grid : (as′ : List A) (bs : List B) → ((a : A) (b : B) → a ∈ as′ → b ∈ bs → g (f a b) ≡ h (k a) (j b))
+      → map g (grid f as′ bs) ≡ grid h (map k as′) (map j bs)
   unfolding grid flatMap
   map-grid [] bs e = refl
   map-grid (a ∷ as′) bs e =
@@ -47,7 +48,8 @@ length-row f (b ∷ bs) a = ap suc (length-row f bs a)
 pub length-grid : {A B C : Type 0} (f : A → B → C) (as′ : List A) (bs : List B) → length (grid f as′ bs) ≡ length as′ * length bs
 unfolding grid flatMap
 length-grid f [] bs = omega arith
-length-grid f (a ∷ as′) bs = omega (arith, length-append (row f bs a) (grid f as′ bs), length-row f bs a, length-grid f as′ bs, suc-mul (length as′) (length bs))
+length-grid f (a ∷ as′) bs =
+    omega (arith, length-append (row f bs a) (grid f as′ bs), length-row f bs a, length-grid f as′ bs, suc-mul (length as′) (length bs))
 
 -- ---- an order part
 
@@ -99,7 +101,8 @@ module _ {s : List ℕ} {o : Order} {x : OrderHead} (h : HeadOf s o x) {p : ℕ}
   lifted-few {other} l = let few-arcs : x .arcs ≤ 1024 = omega (arith, h .arcs, ranges .few-arcs) in mul-le (x .arcs) other few-arcs l
 
   pub lifted-order-words : (side : Side) (n : Sizes) {other : ℕ} → other ≡ of-other side n
-      → (x .positions ∷ x .accepting % W ∷ x .accepting / W ∷ x .arcs * other ∷ []) ++ lifted-grid side n (arcs-in s x) ≡ order-words (lift-order side n o)
+      → (x .positions ∷ x .accepting % W ∷ x .accepting / W ∷ x .arcs * other ∷ []) ++ lifted-grid side n (arcs-in s x)
+      ≡ order-words (lift-order side n o)
   unfolding order-words lift-order set-words
   lifted-order-words side n {other} eo =
       let others = numbers (of-other side n) in
@@ -117,8 +120,8 @@ pub record PairsFit (x y : OrderHead) : Type 0 where
   pub arcs : x .arcs * y .arcs ≤ 1024 * 1024
   pub few-T : y .positions ≤ 64
 
-module _ {s t : List ℕ} {o u : Order} {x y : OrderHead} (h : HeadOf s o x) (k : HeadOf t u y) (n : Sizes) (few-S : n .of-S ≤ 64) (few-T : n .of-T ≤ 64)
-    (in-S : OrderInRange (n .of-S) o) (in-T : OrderInRange (n .of-T) u) where
+module _ {s t : List ℕ} {o u : Order} {x y : OrderHead} (h : HeadOf s o x) (k : HeadOf t u y) (n : Sizes)
+    (few-S : n .of-S ≤ 64) (few-T : n .of-T ≤ 64) (in-S : OrderInRange (n .of-S) o) (in-T : OrderInRange (n .of-T) u) where
   pub pairs-fit : o .positions * u .positions ≤ 64 → PairsFit x y
   pairs-fit few = record {
     positions = rw (h .positions, k .positions) few;
@@ -126,7 +129,8 @@ module _ {s t : List ℕ} {o u : Order} {x y : OrderHead} (h : HeadOf s o x) (k 
     few-T = rw (k .positions) (in-T .few-positions);
   }
 
-  pub paired-order-words : {set : ℕ} → x .positions * y .positions ≤ 64 → set ≡ pair-set (x .positions) (y .positions) (x .accepting) (y .accepting)
+  pub paired-order-words : {set : ℕ} → x .positions * y .positions ≤ 64
+      → set ≡ pair-set (x .positions) (y .positions) (x .accepting) (y .accepting)
       → (x .positions * y .positions ∷ set % W ∷ set / W ∷ x .arcs * y .arcs ∷ [])
       ++ paired-grid (n .of-T) s t (record { s = x; t = y }) ≡ order-words (pair-order n o u)
   unfolding order-words pair-order set-words
@@ -138,9 +142,11 @@ module _ {s t : List ℕ} {o u : Order} {x y : OrderHead} (h : HeadOf s o x) (k 
       (λ a b i j. ap₂ (λ (c d : Arc). arc-word (f c d)) (sym (back h few-S in-S a i)) (sym (back k few-T in-T b j)))
       ∙ ap (λ (z : ℕ). grid (paired-arc z (n .of-T)) (map arc-word (o .arcs)) (map arc-word (u .arcs))) (sym (k .positions))
       ∙ ap₂ (grid (paired-arc (y .positions) (n .of-T))) (sym (h .words)) (sym (k .words)) in
-      let count : x .arcs * y .arcs ≡ length (grid f (o .arcs) (u .arcs)) = ap₂ _*_ (h .arcs) (k .arcs) ∙ sym (length-grid f (o .arcs) (u .arcs)) in
+      let count : x .arcs * y .arcs ≡ length (grid f (o .arcs) (u .arcs))
+      = ap₂ _*_ (h .arcs) (k .arcs) ∙ sym (length-grid f (o .arcs) (u .arcs)) in
       let places : x .positions * y .positions ≡ o .positions * m = ap₂ _*_ (h .positions) (k .positions) in
       let marks : set ≡ mask (o .positions * m) (has (grid (pair m) (o .accepting) (u .accepting)))
       = es ∙ few-pairs (x .positions) (y .positions) (x .accepting) (y .accepting) few
-      ∙ rw (h .positions, k .positions, h .accepting, k .accepting) (pairs-mask (in-S .accepting) (in-T .accepting) (in-T .some-positions)) in
+      ∙ rw (h .positions, k .positions, h .accepting, k .accepting)
+      (pairs-mask (in-S .accepting) (in-T .accepting) (in-T .some-positions)) in
       rw (places, marks, count, same)

@@ -53,7 +53,9 @@ begun {l} {i} e = record { is = ap (adds (page l i)) e }
 
 module _ {l₀ : List ℕ} {i₀ : ℕ} {ws l : List ℕ} {i : ℕ} {rest : List ℕ} (inv : Left l₀ i₀ ws l i rest) where
   pub more : {u v m : List ℕ} {j : ℕ} → rest ≡ u ++ v → Writes l i u m j → Left l₀ i₀ ws m j v
-  more {u} {v} e p = record { is = ap (λ (x : Page). adds x v) (p .is) ∙ sym (adds-append (page l i) u v) ∙ ap (adds (page l i)) (sym e) ∙ inv .is }
+  more {u} {v} e p = record {
+    is = ap (λ (x : Page). adds x v) (p .is) ∙ sym (adds-append (page l i) u v) ∙ ap (adds (page l i)) (sym e) ∙ inv .is;
+  }
 
   pub done : rest ≡ [] → Writes l₀ i₀ ws l i
   unfolding adds
@@ -80,7 +82,8 @@ adds-length g (w ∷ ws) = adds-length (add g w) ws ∙ go (told (leb (g .next) 
     go (nay t) = rw t
 
 pub kept : {l₀ : List ℕ} {i₀ : ℕ} {ws l : List ℕ} {i : ℕ} {rest : List ℕ} → Left l₀ i₀ ws l i rest → length l ≡ length l₀
-kept {l₀} {i₀} {ws} {l} {i} {rest} p = sym (adds-length (page l i) rest) ∙ ap (λ (x : Page). length (x .words)) (p .is) ∙ adds-length (page l₀ i₀) ws
+kept {l₀} {i₀} {ws} {l} {i} {rest} p =
+    sym (adds-length (page l i) rest) ∙ ap (λ (x : Page). length (x .words)) (p .is) ∙ adds-length (page l₀ i₀) ws
 
 -- ---- lists, one element at a time
 
@@ -152,7 +155,8 @@ unfolding adds add
 adds-all [] l i h = let e : i ≡ i + 0 = omega arith in ap (page l) e
 adds-all (w ∷ ws) l i h =
     let e : suc i + length ws ≡ i + length (w ∷ ws) = omega arith in
-    rw (tests.le-leb i 16384 (omega arith), add-one i) (adds-all ws (set l i w) (suc i) (omega arith) ∙ ap (page (sets (set l i w) (suc i) ws)) e)
+    rw (tests.le-leb i 16384 (omega arith), add-one i)
+    (adds-all ws (set l i w) (suc i) (omega arith) ∙ ap (page (sets (set l i w) (suc i) ws)) e)
 
 -- and all are counted, up to one more than the most
 add-next : (g : Page) (w : ℕ) → g .next ≤ 16385 → add g w .next ≡ min (g .next + 1) 16385

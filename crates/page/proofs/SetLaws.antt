@@ -32,7 +32,8 @@ mask-parts zero b f =
 mask-parts (suc a) b f =
     let e : suc a + b ≡ suc (a + b) = omega arith in
     let high = mask b (λ i. f (suc (a + i))) in
-    let same : mask b (λ i. f (suc a + i)) ≡ high = mask-like b _ _ (λ i _. let there : suc a + i ≡ suc (a + i) = omega arith in ap f there) in
+    let same : mask b (λ i. f (suc a + i)) ≡ high
+    = mask-like b _ _ (λ i _. let there : suc a + i ≡ suc (a + i) = omega arith in ap f there) in
     let twice : high * 2 ^ suc a ≡ high * 2 ^ a * 2 = ap (λ (x : ℕ). high * x) (pow-suc 2 a) ∙ sym (mul-assoc high (2 ^ a) 2) in
     ap (λ (k : ℕ). mask k f) e ∙ rw same (omega (arith, mask-parts a b (λ i. f (suc i)), twice))
 
@@ -149,7 +150,8 @@ few-rows m n some h = le-div-iff-mul-le some .0 h
 pub row-room : (m n i : ℕ) → m * n ≤ 64 → i < m → i * n + n ≤ 64
 row-room m n i few l = let h : suc i * n ≤ m * n = mul-le-mul-right n l in omega arith
 
-module _ {m n s t i set row : ℕ} {flag : Bool} (few : m * n ≤ 64) (l : i < m) (h : Rows m n s t i set) (f : flag ≡ bit s i) (r : row ≡ mask (min n 64) (λ j. flag && bit t j)) where
+module _ {m n s t i set row : ℕ} {flag : Bool} (few : m * n ≤ 64) (l : i < m) (h : Rows m n s t i set) (f : flag ≡ bit s i)
+    (r : row ≡ mask (min n 64) (λ j. flag && bit t j)) where
   row-whole : row ≡ mask n (λ j. flag && bit t j)
   row-whole = let e : min n 64 ≡ n = omega (arith, row-room m n i few l) in r ∙ ap (λ (k : ℕ). mask k (λ j. flag && bit t j)) e
 
@@ -158,15 +160,19 @@ module _ {m n s t i set row : ℕ} {flag : Bool} (few : m * n ≤ 64) (l : i < m
 
   with-row-is : with-row ≡ mask (i * n + n) (both n s t)
   with-row-is =
-      let high : mask n (λ j. both n s t (i * n + j)) ≡ row = mask-like n _ _ (λ j k. ap₂ _&&_ (ap (bit s) (pair-left i k) ∙ sym f) (ap (bit t) (pair-right i k))) ∙ sym row-whole in
-      let exact : (row * 2 ^ (i * n)) % 2 ^ 64 ≡ row * 2 ^ (i * n) = shl-exact n (i * n) 64 (omega (arith, row-whole, mask-< n (λ j. flag && bit t j))) (omega (arith, row-room m n i few l)) in
+      let high : mask n (λ j. both n s t (i * n + j)) ≡ row
+      = mask-like n _ _ (λ j k. ap₂ _&&_ (ap (bit s) (pair-left i k) ∙ sym f) (ap (bit t) (pair-right i k))) ∙ sym row-whole in
+      let small : row < 2 ^ n = omega (arith, row-whole, mask-< n (λ j. flag && bit t j)) in
+      let exact : (row * 2 ^ (i * n)) % 2 ^ 64 ≡ row * 2 ^ (i * n) = shl-exact n (i * n) 64 small (omega (arith, row-room m n i few l)) in
       ap₂ _+_ (h .is) (exact ∙ ap (λ (x : ℕ). x * 2 ^ (i * n)) (sym high)) ∙ sym (mask-parts (i * n) n (both n s t))
 
   pub with-row-fits : with-row < 2 ^ 64
   with-row-fits = omega (arith, with-row-is, mask-< (i * n + n) (both n s t), pow-mono (row-room m n i few l))
 
   pub one-row-more : Rows m n s t (i + 1) with-row
-  one-row-more = let e : i * n + n ≡ (i + 1) * n = omega arith in record { within = omega arith; is = with-row-is ∙ ap (λ (k : ℕ). mask k (both n s t)) e }
+  one-row-more =
+      let e : i * n + n ≡ (i + 1) * n = omega arith in
+      record { within = omega arith; is = with-row-is ∙ ap (λ (k : ℕ). mask k (both n s t)) e }
 
 -- ---- pairs of two sets
 
@@ -178,10 +184,14 @@ module _ {a b : ℕ} {l m : List ℕ} (h : SetBelow a l) (k : SetBelow b m) wher
       there = ∈-pairs b (either l m) (k .below) x .0
 
       go : Told (has l (x / b)) → Told (has m (x % b)) → has (grid (pair b) l m) x ≡ has l (x / b) && has m (x % b)
-      go (yea s) (yea t) = ∈-has (∈-pairs b (either l m) (k .below) x .1 (on-both (λ side. half side b x ∈ either l m side) (has-∈ l s) (has-∈ m t))) ∙ sym (and-yes s t)
+      go (yea s) (yea t) =
+          let halves = on-both (λ side. half side b x ∈ either l m side) (has-∈ l s) (has-∈ m t) in
+          ∈-has (∈-pairs b (either l m) (k .below) x .1 halves) ∙ sym (and-yes s t)
       go (nay s) t = has-no (λ i. false≢true (sym s ∙ ∈-has (there i S))) ∙ sym (ap (λ (c : Bool). c && has m (x % b)) s)
       go (yea s) (nay t) = has-no (λ i. false≢true (sym t ∙ ∈-has (there i T))) ∙ sym (ap₂ _&&_ s t)
 
-  pub pairs-mask : 1 ≤ b → mask (a * b) (λ x. bit (mask a (has l)) (x / b) && bit (mask b (has m)) (x % b)) ≡ mask (a * b) (has (grid (pair b) l m))
+  pub pairs-mask : 1 ≤ b
+      → mask (a * b) (λ x. bit (mask a (has l)) (x / b) && bit (mask b (has m)) (x % b)) ≡ mask (a * b) (has (grid (pair b) l m))
   pairs-mask some =
-      mask-like (a * b) _ _ (λ x i. ap₂ _&&_ (bit-mask a (has l) (x / b) (div-lt-iff-lt-mul some .1 i)) (bit-mask b (has m) (x % b) (mod-lt x some)) ∙ sym (has-pairs x))
+      mask-like (a * b) _ _ (λ x i.
+      ap₂ _&&_ (bit-mask a (has l) (x / b) (div-lt-iff-lt-mul some .1 i)) (bit-mask b (has m) (x % b) (mod-lt x some)) ∙ sym (has-pairs x))

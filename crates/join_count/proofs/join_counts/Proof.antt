@@ -41,5 +41,7 @@ join-counts-spec =
     let put = both .before .before .before .before in
     let read = put .before .before in
     λ ss ts h k.
-    as-words (joint-count-words _ ss ts (count-fields h .number ∙ sym (read .before .at .ensures)) (count-fields k .number ∙ sym (read .at2 .ensures)))
+    let m = count-fields h .number ∙ sym (read .before .at .ensures) in
+    let n = count-fields k .number ∙ sym (read .at2 .ensures) in
+    as-words (joint-count-words _ ss ts m n)
     (then (put .put .ensures) (then (both .lift-both .ensures ss ts h k) (closing .copy .ensures)))))

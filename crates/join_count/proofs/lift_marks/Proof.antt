@@ -12,5 +12,9 @@ lift-marks-spec =
     (λ c κs. search needs)
     (λ c. search needs)
     (λ c κs. search needs)
-    (λ c. let start = c .before .before .before in rw (c .before .enum-told .given .1) (marks-of-S (start .pre) (start .args .marks) (c .pair-set .ensures)))
-    (λ c. let start = c .before .before .before in rw (c .before .enum-told2 .given .1) (marks-of-T (start .pre) (start .args .marks) (c .pair-set2 .ensures))))
+    (λ c.
+    let start = c .before .before .before in
+    rw (c .before .enum-told .given .1) (marks-of-S (start .pre) (start .args .marks) (c .pair-set .ensures)))
+    (λ c.
+    let start = c .before .before .before in
+    rw (c .before .enum-told2 .given .1) (marks-of-T (start .pre) (start .args .marks) (c .pair-set2 .ensures))))

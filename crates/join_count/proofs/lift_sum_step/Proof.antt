@@ -29,7 +29,8 @@ lift-sum-step-spec =
     let sum = c .before in
     let start = sum .before .before .before .before .before .before .before .before in
     let v = sum-step _ (start .pre .1 .1) (start .pre .2) in
-    (start .pre .0 .few, record { at = _; coefficients = v .coefficients; is = v .sum; found = sum .sum-head .ensures _ _ (few-states start) (v .sum) }))
+    let found = sum .sum-head .ensures _ _ (few-states start) (v .sum) in
+    (start .pre .0 .few, record { at = _; coefficients = v .coefficients; is = v .sum; found = found }))
     (λ c κs. search needs)
     (λ c.
     let sum = c .before .before .before .before .before in

@@ -10,7 +10,8 @@ use borrow.Author.Needs.{needs}
 use Rattle.join_count.proofs.shift_step.Statement.{statement}
 use Rattle.join_count.proofs.shift_step.Tie as tie
 
-other : (c : tie.Else1) → getD (now (c .before .before .before .before .before .before .args .words)) (c .before .before .before .before .before .before .args .a) 0 ≢ 3
+-- a step that is no `not`
+other : (c : tie.Else1) → let start = c .before .before .before .before .before .before in getD (now (start .args .words)) (start .args .a) 0 ≢ 3
 other c e = c .if1 .left (c .before .before .before .at .ensures ∙ e)
 
 pub shift-step-spec : {M : Type 1} → statement M
@@ -43,4 +44,6 @@ shift-step-spec =
     let read = test .before .before in
     let start = read .before .before .before .before in
     λ x h.
-    as-words (shifted-two _ _ _ h (read .before .at .ensures) (read .field .ensures) (start .pre .2) (test .if1 .left) (second .field2 .ensures)) (row .copy2 .ensures)))
+    as-words
+    (shifted-two _ _ _ h (read .before .at .ensures) (read .field .ensures) (start .pre .2) (test .if1 .left) (second .field2 .ensures))
+    (row .copy2 .ensures)))

@@ -14,4 +14,6 @@ lift-arc-spec =
     (λ c κs. search needs)
     (λ c κs. omega (arith, few-T (c .before .pre .0)))
     (λ c κs. search needs)
-    (λ c. let (leaves, reads, enters) = c .before .before .arc-of .ensures in rw (c .arc-word .ensures, c .before .beside .ensures .0, leaves, reads, enters)))
+    (λ c.
+    let (leaves, reads, enters) = c .before .before .arc-of .ensures in
+    rw (c .arc-word .ensures, c .before .beside .ensures .0, leaves, reads, enters)))

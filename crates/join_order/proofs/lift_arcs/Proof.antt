@@ -34,6 +34,7 @@ lift-arcs-spec =
     let turn = row .before .before .before in
     let loop = turn .before .before in
     let room = loop .before .before .before .pre .0 in
-    more (loop .loop .inv) (grid-next _ _ (slice-at _ _ _ (row .before .before .at .ensures) (turn .if1 .taken) room)) (row .lift-row .ensures))
+    let first = slice-at _ _ _ (row .before .before .at .ensures) (turn .if1 .taken) room in
+    more (loop .loop .inv) (grid-next _ _ first) (row .lift-row .ensures))
     (λ c. kept (c .before .before .loop .inv))
     (λ c. done (c .before .before .loop .inv) (grid-none _ _ (slice-none _ _ _ (c .if1 .left)))))

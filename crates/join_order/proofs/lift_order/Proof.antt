@@ -21,7 +21,8 @@ lift-order-spec =
     let (few, (o, h)) = read .before .before .before .pre in
     let side = side-of (read .before .before .before .args .side) in
     let small = few-other few side in
-    omega (arith, lifted-few (read .order-head .ensures _ o h) (few-side few side) (h .ranges) {other = c .before .of-other .result} (omega arith)))
+    let head = read .order-head .ensures _ o h in
+    omega (arith, lifted-few head (few-side few side) (h .ranges) {other = c .before .of-other .result} (omega arith)))
     (λ c κs. search needs)
     (λ c κs.
     let read = c .before .before .before .before .before .before .before in
@@ -35,5 +36,6 @@ lift-order-spec =
     let read = other .before in
     let start = read .before .before .before in
     λ o h.
-    as-words (lifted-order-words (read .order-head .ensures _ o h) (few-side (start .pre .0) (side-of (start .args .side))) (h .ranges) _ _ (other .of-other .ensures))
+    let few = few-side (start .pre .0) (side-of (start .args .side)) in
+    as-words (lifted-order-words (read .order-head .ensures _ o h) few (h .ranges) _ _ (other .of-other .ensures))
     (then (head .put-head .ensures) (arcs .lift-arcs .ensures))))

@@ -27,10 +27,15 @@ lift-row-spec =
     μ-loop
     (λ c κs. search needs)
     (λ c. begun (row-like _ _ (from-start (c .of-other .ensures))))
-    (λ c κs. (c .before .before .before .before .before .pre, omega (arith, few-other (c .before .before .before .before .before .pre) (side-of (c .before .before .before .before .before .args .side)), c .before .before .before .of-other .ensures)))
+    (λ c κs.
+    let start = c .before .before .before .before .before in
+    (start .pre, omega (arith, few-other (start .pre) (side-of (start .args .side)), c .before .before .before .of-other .ensures)))
     (λ c κs. search needs)
     (λ c. search needs)
     (λ c. search needs)
-    (λ c. more (c .before .before .before .before .before .before .loop .inv) (row-next _ _ (from-next _ _ (c .before .before .before .before .before .loop-test .taken)) (c .before .before .before .lift-arc .ensures)) (c .before .before .put .ensures))
+    (λ c.
+    let put = c .before .before in
+    let turn = put .before .before .before in
+    more (turn .before .loop .inv) (row-next _ _ (from-next _ _ (turn .loop-test .taken)) (put .before .lift-arc .ensures)) (put .put .ensures))
     (λ c. kept (c .before .loop .inv))
     (λ c. done (c .before .loop .inv) (row-none _ _ (from-none _ _ (c .loop-test .left)))))

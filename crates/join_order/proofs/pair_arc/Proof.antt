@@ -18,4 +18,7 @@ pair-arc-spec =
     (λ c.
     let (leaves, reads, enters) = c .before .before .before .before .before .arc-of .ensures in
     let (leaves2, reads2, enters2) = c .before .before .before .before .arc-of2 .ensures in
-    rw (c .arc-word .ensures, c .before .before .before .pair .ensures .0, c .before .before .pair2 .ensures .0, c .before .pair3 .ensures .0, leaves, leaves2, reads, reads2, enters, enters2)))
+    let third = c .before in
+    let second = third .before in
+    rw (c .arc-word .ensures, second .before .pair .ensures .0, second .pair2 .ensures .0, third .pair3 .ensures .0)
+    (rw (leaves, leaves2, reads, reads2, enters, enters2))))

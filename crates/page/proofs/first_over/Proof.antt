@@ -9,5 +9,11 @@ first-over-spec =
     (tie.spec
     (λ c. let a = c .before .args in over-positions (a .positions) (a .arcs) (a .steps) (c .if1 .taken))
     (λ c. let a = c .before .before .args in over-arcs (a .positions) (a .arcs) (a .steps) (c .before .if1 .left) (c .if2 .taken))
-    (λ c. let a = c .before .before .before .args in over-steps (a .positions) (a .arcs) (a .steps) (c .before .before .if1 .left) (c .before .if2 .left) (c .if3 .taken))
-    (λ c. let a = c .before .before .before .args in over-none (a .positions) (a .arcs) (a .steps) (c .before .before .if1 .left) (c .before .if2 .left) (c .if3 .left)))
+    (λ c.
+    let first = c .before .before in
+    let a = first .before .args in
+    over-steps (a .positions) (a .arcs) (a .steps) (first .if1 .left) (c .before .if2 .left) (c .if3 .taken))
+    (λ c.
+    let first = c .before .before in
+    let a = first .before .args in
+    over-none (a .positions) (a .arcs) (a .steps) (first .if1 .left) (c .before .if2 .left) (c .if3 .left)))

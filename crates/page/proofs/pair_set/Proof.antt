@@ -38,8 +38,12 @@ pair-set-spec =
     (λ c. record { fits = omega (arith, room c) })
     (λ c. record { fits = omega (arith, room c) })
     (λ c. omega (arith, room c))
-    (λ c. record { fits = with-row-fits (few c) (c .before .before .loop-test .taken) (c .before .before .before .loop .inv) (c .before .has .ensures) (c .row .ensures) })
+    (λ c.
+    let turn = c .before .before in
+    record { fits = with-row-fits (few c) (turn .loop-test .taken) (turn .before .loop .inv) (c .before .has .ensures) (c .row .ensures) })
     (λ c. search needs)
     (λ c. search needs)
-    (λ c. one-row-more (few c) (c .before .before .loop-test .taken) (c .before .before .before .loop .inv) (c .before .has .ensures) (c .row .ensures))
+    (λ c.
+    let turn = c .before .before in
+    one-row-more (few c) (turn .loop-test .taken) (turn .before .loop .inv) (c .before .has .ensures) (c .row .ensures))
     (λ c. all-rows (few-rows _ _ (omega arith) (c .before .before .if2 .left)) (c .before .loop .inv) (c .loop-test .left)))

@@ -16,4 +16,6 @@ put-spec =
     (λ c. search needs)
     (λ c. search needs)
     (λ c. ⊎-elim (λ w. ap length (w .1) ∙ simp length-set) (λ w. ap length (w .1)) (c .if2 .came))
-    (λ c. ⊎-elim (λ w. rw (w .1) (put-here _ _ _ (c .before .if1 .left))) (λ w. rw (w .1) (put-beyond _ _ _ (c .before .if1 .left) (w .0 .left))) (c .if2 .came)))
+    (λ c.
+    let few = c .before .if1 .left in
+    ⊎-elim (λ w. rw (w .1) (put-here _ _ _ few)) (λ w. rw (w .1) (put-beyond _ _ _ few (w .0 .left))) (c .if2 .came)))

@@ -25,7 +25,9 @@ repeat-each-spec =
     Inv-loop
     μ-loop
     (λ c κs. search needs)
-    (λ c. let a = c .before .before .before .args in begun (ap (repeated-each _) (slice-cut (now (a .words)) (a .from) (a .to) (c .end-within .ensures))))
+    (λ c.
+    let a = c .before .before .before .args in
+    begun (ap (repeated-each _) (slice-cut (now (a .words)) (a .from) (a .to) (c .end-within .ensures))))
     (λ c. search needs)
     (λ c. search needs)
     (λ c κs. search needs)

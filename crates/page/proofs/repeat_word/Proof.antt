@@ -23,6 +23,9 @@ repeat-word-spec =
     (λ c κs. search needs)
     (λ c. search needs)
     (λ c. search needs)
-    (λ c. more (c .before .before .before .before .before .loop .inv) (repeated-next _ _ (c .before .before .before .before .loop-test .taken)) (c .before .before .put .ensures))
+    (λ c.
+    let put = c .before .before in
+    let turn = put .before .before in
+    more (turn .before .loop .inv) (repeated-next _ _ (turn .loop-test .taken)) (put .put .ensures))
     (λ c. kept (c .before .loop .inv))
     (λ c. done (c .before .loop .inv) (repeated-none _ _ (c .loop-test .left))))
