@@ -11,7 +11,7 @@ use Rattle.join_count.proofs.shift_step.Statement.{statement}
 use Rattle.join_count.proofs.shift_step.Tie as tie
 
 -- a step that is no `not`
-other : (c : tie.Else1) → let start = c .before .before .before .before .before .before in getD (now (start .args .words)) (start .args .a) 0 ≢ 3
+other : (c : tie.Else1) → let a = c .before .before .before .before .before .before .args in getD (now (a .words)) (a .a) 0 ≢ 3
 other c e = c .if1 .left (c .before .before .before .at .ensures ∙ e)
 
 pub shift-step-spec : {M : Type 1} → statement M

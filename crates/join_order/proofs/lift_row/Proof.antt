@@ -36,6 +36,7 @@ lift-row-spec =
     (λ c.
     let put = c .before .before in
     let turn = put .before .before .before in
-    more (turn .before .loop .inv) (row-next _ _ (from-next _ _ (turn .loop-test .taken)) (put .before .lift-arc .ensures)) (put .put .ensures))
+    let first = from-next _ _ (turn .loop-test .taken) in
+    more (turn .before .loop .inv) (row-next _ _ first (put .before .lift-arc .ensures)) (put .put .ensures))
     (λ c. kept (c .before .loop .inv))
     (λ c. done (c .before .loop .inv) (row-none _ _ (from-none _ _ (c .loop-test .left)))))
