@@ -10,14 +10,14 @@ use Rattle.page.specs.Limits.{place, first-of, words-said}
 
 -- ---- the first of three places
 
-place-least : (b : Bool) {k : ℕ} → k ≤ 6 → (k ≤ place b k) × (place b k ≤ 6)
+pub place-least : (b : Bool) {k : ℕ} → k ≤ 6 → (k ≤ place b k) × (place b k ≤ 6)
 place-least true h = (h, omega arith)
 place-least false h = (omega arith, h)
 
-first-3 : (b c : Bool) → first-of false b c ≡ 3
+pub first-3 : (b c : Bool) → first-of false b c ≡ 3
 first-3 b c = omega (arith, place-least b {k = 4} (omega arith) .0, place-least c {k = 5} (omega arith) .0)
 
-first-4 : (c : Bool) → first-of true false c ≡ 4
+pub first-4 : (c : Bool) → first-of true false c ≡ 4
 first-4 c = omega (arith, place-least c {k = 5} (omega arith) .0)
 
 module _ (m n k : ℕ) where

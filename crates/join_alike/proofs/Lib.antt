@@ -1,0 +1,3 @@
+pub mod RuleParts
+pub mod SpotLaws
+pub mod AlikeLaws
