@@ -3,7 +3,7 @@ use mathlib.Core.Path.{_≡_, refl, sym, ap, _∙_}
 use mathlib.Core.Logic.{_≢_}
 use mathlib.Core.List.{List, [], _∷_, _++_, flatMap, List·Memᴰ·head, List·Memᴰ·tail}
 use mathlib.Core.Option.{Option}
-use Prim.Native.Nat.{ℕ, zero, suc, _+_, _-_, _/_, _%_, _^_, _≤_, _<_}
+use Prim.Native.Nat.{ℕ, zero, suc, _+_, _/_, _^_, _≤_, _<_}
 use native.Mathlib.Omega.{arith}
 use lib.ListN.{length, getD, drop, drop-of-length-le}
 use Rattle.model.specs.Lists.{_∈_, only}
@@ -14,14 +14,14 @@ use Rattle.model.specs.Index.{sheet-in, rules-in, nth, key}
 use Rattle.model.proofs.Tests.{eqb-yes, eqb-false}
 use Rattle.model.proofs.ListLaws.{∈-each}
 use Rattle.model.proofs.Chains.{rules-next}
-use Rattle.model.proofs.PassedLaws.{states-word}
+use Rattle.model.proofs.PassedLaws.{states-word, rules-word}
 use Rattle.model.proofs.IndexLaws.{chain-first, chain-next, chain-few}
 use Rattle.join_pairs.specs.declared.Sizes.{Sizes}
 use Rattle.join_pairs.specs.Sides.{sizes-of}
 use Rattle.join_alike.specs.declared.Spot.{Spot}
 use Rattle.join_alike.specs.declared.RulePair.{RulePair}
-use Rattle.join_alike.specs.Spots.{rule-of}
-use Rattle.join_alike.specs.Alike.{sizes-in, Joinable, RowOf, row-in, Alike}
+use Rattle.join_alike.specs.Spots.{SpotIn, rule-of}
+use Rattle.join_alike.specs.Alike.{sizes-in, joint-rules-in, Joinable, RowOf, row-in, Alike, pair-in}
 use Rattle.join_alike.proofs.SpotLaws.{spot-found}
 
 -- ---- two rules
@@ -70,72 +70,104 @@ pub alike-paired : {u v : List ℕ} {n : Sizes} {r : RulePair} → Alike u v n r
 alike-paired {u} {v} {n} {r} h =
     paired (sizes-of n) (sheet-in u .states) (sheet-in v .states) (rule-of u (r .s)) (rule-of v (r .t)) (h .first .begins .ranges) (h .second .begins .ranges) (h .one-key)
 
-module _ {u v index : List ℕ} {x : Spot} (h : RowOf u v index x) where
-  -- the numbers of states stand in the words
-  pub sizes-are : (n : Sizes) → n .s ≡ getD u 1 0 → n .t ≡ getD v 1 0 → sizes-of n ≡ sizes-in u v
-  sizes-are n e f = let e′ = e ∙ states-word (h .first) in let f′ = f ∙ states-word (h .second .sheet) in λ i. record { of-S = e′ i; of-T = f′ i }
-
-  -- rule j of T, if there is one, has the key of x
-  abbrev pub HasKey : ℕ → Type 0
-  HasKey j = j < length (rules-in v) → key (nth (rules-in v) j) ≡ key (rule-of u x)
-
-  pub alike-here : (n : Sizes) → n .s ≡ getD u 1 0 → n .t ≡ getD v 1 0 → {j : ℕ} → HasKey j → j < length (rules-in v)
-      → (y : Spot) → y .rule ≡ j → y .at ≡ getD index (67 + j) 0 % 2 ^ 16 → y .target ≡ getD index (68 + j) 0 % 2 ^ 16 - 1
-      → Alike u v n (record { s = x; t = y })
-  alike-here n e f {j} k l y number begins ends = record {
-    first = h .rule;
-    second = spot-found (h .second) j l y number begins ends;
-    one-key = rw number (k l);
-    sizes = sizes-are n e f;
-    few = rw (sizes-are n e f) (h .few);
-  }
-
-  -- ---- along the chain of T's rules with the key of x
-
-  pub chain-begun : {j : ℕ} → j ≡ getD index (key (rule-of u x)) 0 → key (rule-of u x) < 67
-      → (row-in u v x ≡ flatMap (pair-rule (sizes-in u v) (rule-of u x)) (drop j (rules-in v))) × HasKey j
-  chain-begun e l = chain-first (h .second) (pair-rule (sizes-in u v) (rule-of u x)) (keys-apart (sizes-in u v) (rule-of u x)) l e
-
-  module _ {j i : ℕ} (l : j < length (rules-in v)) (e : i ≡ getD index (67 + j) 0 / 2 ^ 16) where
-    pub chain-later : j < i
-    chain-later = chain-few (h .second) l e .0
-
-    pub chain-on : HasKey j
-        → (flatMap (pair-rule (sizes-in u v) (rule-of u x)) (drop j (rules-in v))
-        ≡ pair-rule (sizes-in u v) (rule-of u x) (nth (rules-in v) j) ++ flatMap (pair-rule (sizes-in u v) (rule-of u x)) (drop i (rules-in v)))
-        × HasKey i
-    chain-on k = chain-next (h .second) (pair-rule (sizes-in u v) (rule-of u x)) (keys-apart (sizes-in u v) (rule-of u x)) l (k l) e
-
--- ---- the rules of S, one at a time
-
 nth-∈ : (xs : List Rule) (j : ℕ) → j < length xs → nth xs j ∈ xs
 nth-∈ [] j l = absurd (omega arith)
 nth-∈ (x ∷ xs) zero l = List·Memᴰ·head refl
 nth-∈ (x ∷ xs) (suc j) l = List·Memᴰ·tail (nth-∈ xs j (omega arith))
 
--- what is made of rule j is among what is made of each; past the last rule nothing is made
-pub rule-among : (xs : List Rule) {j : ℕ} → j < length xs → (f : Rule → List Rule) {z : Rule} → z ∈ f (nth xs j) → z ∈ flatMap f xs
-rule-among xs l f m = ∈-each f (nth-∈ xs _ l) m
-
+-- past the last rule nothing is made
 pub rules-none : (xs : List Rule) {n j : ℕ} → length xs ≡ n → n ≤ j → {B : Type 0} (f : Rule → List B) → flatMap f (drop j xs) ≡ []
 unfolding flatMap
 rules-none xs {j = j} e l f = ap (flatMap f) (drop-of-length-le xs {i = j} (omega arith))
 
-module _ {u i v j : List ℕ} (h : Joinable u i v j) {k : ℕ} (l : k < length (rules-in u)) where
-  pub row-here : (x : Spot) → x .rule ≡ k → x .at ≡ getD i (67 + k) 0 % 2 ^ 16 → x .target ≡ getD i (68 + k) 0 % 2 ^ 16 - 1 → RowOf u v j x
-  row-here x number begins ends = record {
-    first = h .first .sheet;
-    second = h .second;
-    few = h .few;
-    rule = spot-found (h .first) k l x number begins ends;
-  }
+-- ---- along the chain of T's rules with the key of S's rule x
 
-  -- the joint rules of rule k, and those of the rules after it
-  pub rows-next : (x : Spot) → x .rule ≡ k → joint-rules (sizes-in u v) (drop k (rules-in u)) (rules-in v)
-      ≡ row-in u v x ++ joint-rules (sizes-in u v) (drop (k + 1) (rules-in u)) (rules-in v)
+-- the joint rules of x and T's rules from number j on
+abbrev pub row-from : List ℕ → List ℕ → Spot → ℕ → List Rule
+row-from u v x j = flatMap (pair-rule (sizes-in u v) (rule-of u x)) (drop j (rules-in v))
+
+-- A walk along the chain is at T's rule j, if there is one: it has the key of x. T has m rules.
+pub record InRow (u v index : List ℕ) (x : Spot) (n : Sizes) (m j : ℕ) : Type 0 where
+  pub row : RowOf u v index x
+  pub sizes : sizes-of n ≡ sizes-in u v
+  pub number : length (rules-in v) ≡ m
+  pub has-key : j < length (rules-in v) → key (nth (rules-in v) j) ≡ key (rule-of u x)
+
+pub row-begun : {u v index : List ℕ} {x : Spot} → RowOf u v index x → (n : Sizes) → n .s ≡ getD u 1 0 → n .t ≡ getD v 1 0 → {w m j : ℕ} → w ≡ getD v 5 0
+    → m ≡ w → j ≡ getD index (key (rule-of u x)) 0 → key (rule-of u x) < 67 → InRow u v index x n m j × (row-in u v x ≡ row-from u v x j)
+row-begun {u} {v} {x = x} h n es et ew em e l =
+    let s = es ∙ states-word (h .first) in
+    let t = et ∙ states-word (h .second .sheet) in
+    let (all, there) = chain-first (h .second) (pair-rule (sizes-in u v) (rule-of u x)) (keys-apart (sizes-in u v) (rule-of u x)) l e in
+    let same : sizes-of n ≡ sizes-in u v = λ i. record { of-S = s i; of-T = t i } in
+    (record { row = h; sizes = same; number = sym (em ∙ ew ∙ rules-word (h .second .sheet)); has-key = there }, all)
+
+module _ {u v index : List ℕ} {x : Spot} {n : Sizes} {m j : ℕ} (h : InRow u v index x n m j) where
+  pub row-done : m ≤ j → row-from u v x j ≡ []
+  row-done l = rules-none (rules-in v) (h .number) l (pair-rule (sizes-in u v) (rule-of u x))
+
+  module _ (l : j < m) where
+    inside : j < length (rules-in v)
+    inside = omega (arith, h .number)
+
+    -- x and the rule that the index tells
+    pub row-alike : {y : Spot} → SpotIn index j y → Alike u v n (record { s = x; t = y })
+    row-alike e = record {
+      first = h .row .rule;
+      second = spot-found (h .row .second) inside e;
+      one-key = rw (e .rule) (h .has-key inside);
+      sizes = h .sizes;
+      few = rw (h .sizes) (h .row .few);
+    }
+
+    pub row-among : {y : Spot} → SpotIn index j y → {z : Rule} → z ∈ pair-in u v n (record { s = x; t = y }) → z ∈ row-in u v x
+    row-among {y} e k =
+        let here : y .rule < length (rules-in v) = omega (arith, inside, e .rule) in
+        ∈-each (pair-rule (sizes-in u v) (rule-of u x)) (nth-∈ (rules-in v) (y .rule) here) (rw (h .sizes) at k)
+
+    pub row-next : {y : Spot} → SpotIn index j y → {i : ℕ} → i ≡ getD index (67 + j) 0 / 2 ^ 16
+        → InRow u v index x n m i × (row-from u v x j ≡ pair-in u v n (record { s = x; t = y }) ++ row-from u v x i) × (j < i)
+    row-next here e =
+        let f = pair-rule (sizes-in u v) (rule-of u x) in
+        let (next, there) = chain-next (h .row .second) f (keys-apart (sizes-in u v) (rule-of u x)) inside (h .has-key inside) e in (
+          record { row = h .row; sizes = h .sizes; number = h .number; has-key = there },
+          rw (h .sizes, here .rule) next,
+          chain-few (h .row .second) inside e .0,
+        )
+
+-- ---- the rules of S, one at a time
+
+-- the joint rules of S's rules from number k on
+abbrev pub rows-from : List ℕ → List ℕ → ℕ → List Rule
+rows-from u v k = joint-rules (sizes-in u v) (drop k (rules-in u)) (rules-in v)
+
+-- S has m rules
+pub record InRows (u i v j : List ℕ) (m : ℕ) : Type 0 where
+  pub both : Joinable u i v j
+  pub number : length (rules-in u) ≡ m
+
+pub rows-begun : {u i v j : List ℕ} → Joinable u i v j → {w m : ℕ} → w ≡ getD u 5 0 → m ≡ w → InRows u i v j m
+rows-begun h ew em = record { both = h; number = sym (em ∙ ew ∙ rules-word (h .first .sheet)) }
+
+module _ {u i v j : List ℕ} {m k : ℕ} (h : InRows u i v j m) where
+  pub rows-done : m ≤ k → rows-from u v k ≡ []
   unfolding joint-rules
-  rows-next x e = rw e (rules-next (rules-in u) refl l (λ r. flatMap (pair-rule (sizes-in u v) r) (rules-in v)))
+  rows-done l = rules-none (rules-in u) (h .number) l (λ r. flatMap (pair-rule (sizes-in u v) r) (rules-in v))
 
-pub rows-none : (u v : List ℕ) {n k : ℕ} → length (rules-in u) ≡ n → n ≤ k → joint-rules (sizes-in u v) (drop k (rules-in u)) (rules-in v) ≡ []
-unfolding joint-rules
-rows-none u v e l = rules-none (rules-in u) e l (λ r. flatMap (pair-rule (sizes-in u v) r) (rules-in v))
+  module _ (l : k < m) {x : Spot} (e : SpotIn i k x) where
+    -- rule k that S's index tells
+    pub row-here : RowOf u v j x
+    row-here = record {
+      first = h .both .first .sheet;
+      second = h .both .second;
+      few = h .both .few;
+      rule = spot-found (h .both .first) (omega (arith, h .number)) e;
+    }
+
+    pub rows-next : rows-from u v k ≡ row-in u v x ++ rows-from u v (k + 1)
+    unfolding joint-rules
+    rows-next = rw (e .rule) (rules-next (rules-in u) (h .number) l (λ r. flatMap (pair-rule (sizes-in u v) r) (rules-in v)))
+
+    pub rows-among : {z : Rule} → z ∈ row-in u v x → z ∈ joint-rules-in u v
+    unfolding joint-rules
+    rows-among m = ∈-each (λ r. flatMap (pair-rule (sizes-in u v) r) (rules-in v)) (nth-∈ (rules-in u) (x .rule) (row-here .rule .number)) m

@@ -2,8 +2,8 @@
 use mathlib.Core.Path.{_≡_}
 use mathlib.Core.List.{List}
 use mathlib.Core.Option.{none}
-use Prim.Native.Nat.{ℕ, _+_, _<_}
-use lib.ListN.{length}
+use Prim.Native.Nat.{ℕ, _+_, _-_, _%_, _^_, _<_}
+use lib.ListN.{length, getD}
 use Rattle.model.specs.Sheet.{Rule, one, two, three, rule-words}
 use Rattle.model.specs.Spans.{RuleAt, Content}
 use Rattle.model.specs.Index.{sheet-in, rules-in, nth}
@@ -12,6 +12,12 @@ use Rattle.join_alike.specs.declared.Spot.{Spot}
 -- the rule of a spot's number
 abbrev pub rule-of : List ℕ → Spot → Rule
 rule-of s x = nth (rules-in s) (x .rule)
+
+-- x is what an index tells of rule k: where it begins, and where the next begins, before which its target stands
+pub record SpotIn (index : List ℕ) (k : ℕ) (x : Spot) : Type 0 where
+  pub rule : x .rule ≡ k
+  pub at : x .at ≡ getD index (67 + k) 0 % 2 ^ 16
+  pub target : x .target ≡ getD index (67 + (k + 1)) 0 % 2 ^ 16 - 1
 
 -- x is the spot of a rule of the sheet with the words s
 pub record SpotOf (s : List ℕ) (x : Spot) : Type 0 where

@@ -1,10 +1,10 @@
 // Rules of the two sheets of a join that have one key: these pair up.
 ghost use mathlib.Core.Path.{_≡_};
-ghost use Prim.Native.Nat.{_+_, _-_, _/_, _%_, _^_, _<_};
+ghost use Prim.Native.Nat.{_+_, _-_, _/_, _^_, _<_};
 ghost use lib.ListN.{length, getD};
 ghost use Rattle.model.specs.Spans.{there-is, order-part};
 ghost use Rattle.model.specs.Index.{key};
-ghost use Rattle.join_alike.specs.Spots.{rule-of, SpotOf, parts-of};
+ghost use Rattle.join_alike.specs.Spots.{SpotIn, rule-of, SpotOf, parts-of};
 use join_pairs::Sizes;
 use layout::ENTRIES;
 use layout::STATES;
@@ -53,9 +53,7 @@ fn one_less(n: usize) -> usize
 
 // Where rule k is, by the sheet's index: it ends where the next begins.
 pub fn spot_of(index: &[u32], k: usize) -> Spot
-    ensures rule { λ r. ⌜ r .rule ≡ k ⌝ }
-    ensures at { λ r. ⌜ r .at ≡ getD (now (index .entry)) (67 + k) 0 % 2 ^ 16 ⌝ }
-    ensures target { λ r. ⌜ r .target ≡ getD (now (index .entry)) (68 + k) 0 % 2 ^ 16 - 1 ⌝ }
+    ensures { λ r. ⌜ SpotIn (now (index .entry)) k r ⌝ }
 {
     let here = entry_of(field(index, ENTRIES, k));
     let next = entry_of(field(index, ENTRIES + 1, k));

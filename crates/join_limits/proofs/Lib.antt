@@ -1,0 +1,2 @@
+mod ExtentLaws
+mod LimitLaws
