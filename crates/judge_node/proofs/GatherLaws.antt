@@ -1,13 +1,16 @@
 -- The loop that gathers the state words of a node's children.
 use mathlib.Core.Path.{_≡_, refl, sym, ap, _∙_, subst}
+use mathlib.Core.Logic.{_≢_}
 use mathlib.Core.Bool.{Bool, true, false, _||_, or-assoc, or-true}
 use mathlib.Core.List.{List, [], _∷_, _++_, append-assoc, append-nil}
-use Prim.Native.Nat.{ℕ, _+_, _≤_, _<_}
+use Prim.Native.Nat.{ℕ, _+_, _-_, _≤_, _<_}
 use native.Mathlib.Numerals.{add-one}
 use native.Mathlib.Omega.{arith}
 use lib.Dec.{eqb}
 use lib.ListN.{length, getD, take, set, length-set}
 use lib.Seq.{take-suc-set}
+use mir.Syntax.{w64}
+use mir.Val.{Fits}
 use Rattle.model.specs.Lists.{has}
 use Rattle.model.specs.Tree.{size-at}
 use Rattle.model.proofs.Tests.{eqb-false}
@@ -50,9 +53,18 @@ module _ {tree states : List ℕ} {first end room : ℕ} {words : List ℕ} {n a
         sym (ap (λ (l : List ℕ). has l 0) (g .rest)) ∙ has-append (take n words) (words-between tree states at end) 0
         ∙ rw (words-more states t refl at end inside whole, z) (or-true (has (take n words) 0))
 
-    pub gather-more : (z : ℕ) → z ≡ size-at tree at → (getD states at 0 ≡ 0 → ⊥) → length states ≤ room → Gathering tree states first end room (set words n (getD states at 0)) (n + 1) (at + z)
+    -- the next child is after this one
+    module _ {z : ℕ} (ez : z ≡ size-at tree at) where
+      pub next-fits : Fits w64 (at + z)
+      next-fits = record { fits = omega (arith, t .sizes at (omega arith), t .few) }
+
+      pub next-nearer : end - (at + z) < end - at
+      next-nearer = omega (arith, t .sizes at (omega arith))
+
+    pub gather-more : {z : ℕ} → z ≡ size-at tree at → getD states at 0 ≢ 0 → length states ≤ room
+        → Gathering tree states first end room (set words n (getD states at 0)) (n + 1) (at + z)
     unfolding has
-    gather-more z ez nz fits =
+    gather-more {z} ez nz fits =
         let (some, _) = t .sizes at (omega arith) in
         let x = getD states at 0 in
         let e : take (n + 1) (set words n x) ≡ take n words ++ (x ∷ []) = take-stored words n x (omega (arith, g .few, g .long)) in

@@ -35,11 +35,13 @@ pub record Judging (s index : List ℕ) (at : At) (tree states words : List ℕ)
 -- what the content of node i reaches
 abbrev pub FindsInside : (R : List Rule) (tree states : List ℕ) (i : ℕ) → Found → Type 0
 FindsInside R tree states i f =
-    Finds (2 ^ 42) f (inside-targets R (child-states (words-inside tree states i))) (inside-looks R (child-states (words-inside tree states i)))
+    let w = child-states (words-inside tree states i) in
+    Finds (2 ^ 42) f (inside-targets R w) (inside-looks R w)
 
 -- what an element with this tag reaches, by what its content reaches
 pub record TagFinds (R : List Rule) (tag : ℕ) (inside f : Found) : Type 0 where
-  pub found : (l : List ℕ) (n : ℕ) → Finds (2 ^ 42) inside l n → Finds (2 ^ 43) f (flatMap (at-tag tag l) R) (n + unless-none l (of-kind 2 R))
+  pub found : (l : List ℕ) (n : ℕ) → Finds (2 ^ 42) inside l n
+      → Finds (2 ^ 43) f (flatMap (at-tag tag l) R) (n + unless-none l (of-kind 2 R))
 
 -- what node i reaches
 abbrev pub FindsNode : (R : List Rule) (tree states : List ℕ) (i : ℕ) → Found → Type 0

@@ -1,12 +1,13 @@
 -- The rules of a sheet: how many there are, and what one of them gives.
 use mathlib.Core.Path.{_≡_}
-use mathlib.Core.Bool.{Bool, true, false, cond}
+use mathlib.Core.Bool.{Bool, true, false, cond, _&&_, _||_}
 use mathlib.Core.List.{List, [], _∷_, flatMap}
 use mathlib.Core.Option.{none, some}
 use Prim.Native.Nat.{ℕ, suc, _+_, _^_, _≤_, _<_}
+use lib.Dec.{eqb}
 use lib.ListN.{length, getD}
 use Rattle.model.specs.Lists.{only}
-use Rattle.model.specs.Sheet.{Rule, one, two, three, rule-words}
+use Rattle.model.specs.Sheet.{Rule, one, two, three, rule-words, bit, mask}
 use Rattle.model.specs.Run.{at-tag, at-content, looks-of, of-kind}
 use Rattle.model.specs.Spans.{RuleAt, Content, content, counted}
 use Rattle.model.specs.Index.{rules-in}
@@ -35,6 +36,10 @@ pub record RulesOf (s : List ℕ) (r : Rules) : Type 0 where
   pub counts : r .counted ≡ of-count (rules-in s)
 
 -- ---- rules of kind two
+
+-- the set with the target of the rule that begins at word `at`, if its inner state is one of `inner`
+abbrev pub with-target : (s : List ℕ) (at inner targets : ℕ) → ℕ
+with-target s at inner targets = mask 64 (λ j. bit targets j || (bit inner (getD s (at + 2) 0) && eqb j (getD s (at + 3) 0)))
 
 -- what the rules R give for a tag whose content reaches the states of the set `inner`
 pub record TagReaches (R : List Rule) (tag inner targets : ℕ) : Type 0 where

@@ -1,14 +1,11 @@
 // What the rules of kinds one and two give, as sets of target states.
 ghost use mathlib.Core.Path.{_≡_};
-ghost use mathlib.Core.Bool.{_&&_, _||_};
 ghost use Prim.Native.Nat.{_+_, _≤_, _<_};
-ghost use lib.Dec.{eqb};
-ghost use lib.ListN.{length, getD};
-ghost use Rattle.model.specs.Sheet.{bit, mask};
+ghost use lib.ListN.{length};
 ghost use Rattle.model.specs.Run.{text-targets};
 ghost use Rattle.model.specs.Index.{rules-in, Indexed};
 ghost use Rattle.bits.specs.Stands.{Stands};
-ghost use Rattle.judge_rules.specs.Rules.{TagReaches};
+ghost use Rattle.judge_rules.specs.Rules.{TagReaches, with-target};
 use layout::ENTRIES;
 use parts::wide;
 
@@ -34,7 +31,7 @@ pub fn text_targets(sheet: &[u32], index: &[u32], rules: usize, kind: u32) -> u6
 // The set with the target of the kind-two rule that begins at word `at`, if the rule's inner state is one of `inner`.
 fn with_target(sheet: &[u32], at: usize, inner: u64, targets: u64) -> u64
     requires { ⌜ at + 3 < length (now sheet) ⌝ }
-    ensures { λ r. ⌜ r ≡ mask 64 (λ j. bit targets j || (bit inner (getD (now (sheet .entry)) (at + 2) 0) && eqb j (getD (now (sheet .entry)) (at + 3) 0))) ⌝ }
+    ensures { λ r. ⌜ r ≡ with-target (now (sheet .entry)) at inner targets ⌝ }
 {
     // a branch: most rules of a tag have another inner state
     if bits::has(inner, sheet[at + 2]) {

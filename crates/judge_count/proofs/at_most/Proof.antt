@@ -14,7 +14,8 @@ use Rattle.judge_count.proofs.at_most.Statement.{statement}
 use Rattle.judge_count.proofs.at_most.Tie as tie
 
 -- the sum, as the machine has it
-summed : (c : tie.After-struct-told) → Summed (c .before .before .before .args .part .now) (c .before .before .before .args .at + 1) (c .before .before .before .args .counts .now) (c .before .sum-at .result .next) (toZ w32 (ofZ w32 (c .before .sum-at .result .total)))
+summed : (c : tie.After-struct-told) → let a = c .before .before .before .args in let r = c .before .sum-at .result in
+    Summed (a .part .now) (a .at + 1) (a .counts .now) (r .next) (toZ w32 (ofZ w32 (r .total)))
 summed c k w o = let (en, et) = c .before .sum-at .ensures k w o in (en, toZ-ofZ (search needs) ∙ et)
 
 -- the bound stands in the part

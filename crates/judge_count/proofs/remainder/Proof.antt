@@ -14,7 +14,8 @@ use Rattle.judge_count.proofs.remainder.Statement.{statement}
 use Rattle.judge_count.proofs.remainder.Tie as tie
 
 -- the sum, as the machine has it
-summed : (c : tie.After-struct-told) → Summed (c .before .before .before .before .args .part .now) (c .before .before .before .before .args .at + 1) (c .before .before .before .before .args .counts .now) (c .before .before .sum-at .result .next) (toZ w32 (ofZ w32 (c .before .before .sum-at .result .total)))
+summed : (c : tie.After-struct-told) → let a = c .before .before .before .before .args in let r = c .before .before .sum-at .result in
+    Summed (a .part .now) (a .at + 1) (a .counts .now) (r .next) (toZ w32 (ofZ w32 (r .total)))
 summed c k w o = let (en, et) = c .before .before .sum-at .ensures k w o in (en, toZ-ofZ (search needs) ∙ et)
 
 -- the modulus and the remainder stand in the part
@@ -35,4 +36,5 @@ remainder-spec =
     (λ c. room (c .before .before .before .before))
     (λ c. omega (arith, room (c .before .before .before .before)))
     (λ c earlier h w o.
-    remainder-found (summed (c .before .before)) o (c .before .remainder .ensures) (said 2 (c .before .before .before .before .before .before .pre .0 .1) h) earlier))
+    let start = c .before .before .before .before .before .before in
+    remainder-found (summed (c .before .before)) o (c .before .remainder .ensures) (said 2 (start .pre .0 .1) h) earlier))

@@ -18,14 +18,17 @@ Inv-loop part from counts marks₀ at₀ total₀ marks at total = SumLeft part 
 abbrev μ-loop : tie.MeasureT-loop
 μ-loop part from counts marks₀ at₀ total₀ marks at total = length (members 64 marks)
 
--- the coefficient in hand stands in the part, and is a state's
-place : (c : tie.After-lowest Inv-loop μ-loop)
-    → (c .before .before .loop .at < length (c .before .before .before .before .before .before .before .args .part .now)) × (getD (members 64 (c .before .before .loop .marks)) 0 64 < 64)
-place c = let s = c .before .before .before .before .before .before .before in term-place (c .before .before .loop .inv) (c .before .loop-test .taken) (s .pre .0) (s .pre .1)
+-- the coefficient in hand is in the part, and is a state's
+place : (c : tie.After-lowest Inv-loop μ-loop) → let loop = c .before .before in let start = loop .before .before .before .before .before in
+    (loop .loop .at < length (start .args .part .now)) × (getD (members 64 (loop .loop .marks)) 0 64 < 64)
+place c =
+    let loop = c .before .before in
+    let start = loop .before .before .before .before .before in
+    term-place (loop .loop .inv) (c .before .loop-test .taken) (start .pre .0) (start .pre .1)
 
 -- the coefficient in hand, as the machine has it
-times-is : (c : tie.After-signed Inv-loop μ-loop)
-    → toZ w32 (ofZ w32 (c .signed .result)) ≡ signed (getD (c .before .before .before .before .before .before .before .before .before .args .part .now) (c .before .before .before .before .loop .at) 0)
+times-is : (c : tie.After-signed Inv-loop μ-loop) → let loop = c .before .before .before .before in let start = loop .before .before .before .before .before in
+    toZ w32 (ofZ w32 (c .signed .result)) ≡ signed (getD (start .args .part .now) (loop .loop .at) 0)
 times-is c = toZ-ofZ (record { sfits = c .signed .ok }) ∙ c .signed .ensures
 
 pub sum-at-spec : {M : Type 1} → statement M
@@ -50,13 +53,18 @@ sum-at-spec =
     (λ c. omega (arith, c .before .before .lowest .ensures, place (c .before .before) .1))
     (λ c. omega (arith, c .before .before .lowest .ensures, place (c .before .before) .1))
     (λ c κs.
-    let s = c .before .before .before .before .before .before .before .before .before .before in
-    term-room (c .before .before .before .before .before .loop .inv) (c .before .before .before .before .loop-test .taken) (c .before .before .before .lowest .ensures) (times-is (c .before)) (s .pre .0) (s .pre .1))
+    let here = c .before .before .before in
+    let loop = here .before .before in
+    let start = loop .before .before .before .before .before in
+    term-room (loop .loop .inv) (here .before .loop-test .taken) (here .lowest .ensures) (times-is (c .before)) (start .pre .0) (start .pre .1))
     (λ c. omega (arith, place (c .before .before .before .before) .0))
     (λ c κs. search needs)
-    (λ c. fewer-left (c .before .before .before .before .before .before .before .loop .inv) (c .before .before .before .before .before .before .loop-test .taken) _ (c .without-lowest .ensures))
     (λ c.
-    one-term (c .before .before .before .before .before .before .before .loop .inv) (c .before .before .before .before .before .before .loop-test .taken)
-    (c .before .before .before .before .before .lowest .ensures) (times-is (c .before .before .before))
-    (toZ-ofZ (record { sfits = c .before .plus-times .ok }) ∙ c .before .plus-times .ensures) (c .without-lowest .ensures) (c .without-lowest .ok))
+    let loop = c .before .before .before .before .before .before .before in
+    fewer-left (loop .loop .inv) (c .before .before .before .before .before .before .loop-test .taken) _ (c .without-lowest .ensures))
+    (λ c.
+    let here = c .before .before .before .before .before in
+    let sum = toZ-ofZ (record { sfits = c .before .plus-times .ok }) ∙ c .before .plus-times .ensures in
+    one-term (here .before .before .loop .inv) (here .before .loop-test .taken) (here .lowest .ensures) (times-is (c .before .before .before)) sum
+    (c .without-lowest .ensures) (c .without-lowest .ok))
     (λ c. all-terms (c .before .loop .inv) (c .loop-test .left)))

@@ -3,7 +3,7 @@ use Prim.Native.Nat.{_-_}
 use native.Mathlib.Omega.{arith}
 use borrow.Author.Needs.{needs}
 use lib.ListN.{length}
-use Rattle.judge_node.proofs.GatherLaws.{Gathering, gather-none, gather-done, gather-zero, gather-more}
+use Rattle.judge_node.proofs.GatherLaws.{Gathering, gather-none, gather-done, gather-zero, next-fits, next-nearer, gather-more}
 use Rattle.judge_node.proofs.gather.Statement.{statement}
 use Rattle.judge_node.proofs.gather.Tie as tie
 
@@ -23,13 +23,13 @@ gather-spec =
     (λ c. search needs)
     (λ c. search needs)
     (λ c. search needs)
-    (λ c. gather-zero (c .before .before .before .loop .inv) (c .before .before .before .before .before .before .before .pre .0) (c .before .before .loop-test .taken) (c .before .before .before .before .before .before .before .pre .1 .0) (c .if1 .taken))
+    (λ c. search (gather-zero, needs))
     (λ c. search needs)
     (λ c. search needs)
     (λ c. search needs)
     (λ c κs. search needs)
-    (λ c. omega (arith, c .before .before .before .before .before .before .before .before .pre .0 .sizes (c .before .before .before .before .loop .at) (omega arith)))
-    (λ c. omega (arith, c .before .before .before .before .before .before .before .before .pre .0 .sizes (c .before .before .before .before .loop .at) (omega arith)))
-    (λ c. gather-more (c .before .before .before .before .loop .inv) (c .before .before .before .before .before .before .before .before .pre .0) (c .before .before .before .loop-test .taken) (c .before .before .before .before .before .before .before .before .pre .1 .0) _ (c .size-at .ensures) (c .before .if1 .left) (c .before .before .before .before .before .before .before .before .pre .1 .1))
+    (λ c. search (next-fits, needs))
+    (λ c. search (next-nearer, needs))
+    (λ c. search (gather-more, needs))
     (λ c. search needs)
-    (λ c. gather-done (c .before .loop .inv) (c .before .before .before .before .before .pre .0) (c .loop-test .left)))
+    (λ c. search (gather-done, needs)))

@@ -32,7 +32,8 @@ run-spec =
     let loop = c .before .before .before in
     let start = loop .before .before .before .before .before .before .before .before .before in
     let rules = loop .before .before .before .count-rules .ensures in
-    running-judging (start .pre .1 .0) (loop .loop .inv .0) (c .before .before .loop-test .taken) (start .pre .0) rules (nothing-found _ (loop .before .content .ensures))
+    let nothing = nothing-found _ (loop .before .content .ensures) in
+    running-judging (start .pre .1 .0) (loop .loop .inv .0) (c .before .before .loop-test .taken) (start .pre .0) rules nothing
     (omega (arith, start .pre .1 .1, loop .loop .inv .1)))
     (λ c κs. search needs)
     (λ c κs. search needs)
@@ -47,7 +48,8 @@ run-spec =
     let loop = judged .before .before .before .before in
     let start = loop .before .before .before .before .before .before .before .before .before in
     let word = c .before .before .before .before in
-    let two = running-two (start .pre .1 .0) (loop .loop .inv .0) (judged .before .before .before .loop-test .taken) _ (judged .node .ensures) (word .before .state-word .ensures) (word .if1 .taken) in
+    let taken = judged .before .before .before .loop-test .taken in
+    let two = running-two (start .pre .1 .0) (loop .loop .inv .0) taken _ (judged .node .ensures) (word .before .state-word .ensures) (word .if1 .taken) in
     (two, c .before .before .clear .ensures ∙ ap (λ n. replicate n 0) (loop .loop .inv .0 .long)))
     (λ c κs. search (running-room, needs))
     (λ c.
@@ -62,7 +64,9 @@ run-spec =
     let loop = judged .before .before .before .before in
     let start = loop .before .before .before .before .before .before .before .before .before in
     let word = c .before .before .before .before .before in
-    let more = running-more (start .pre .1 .0) (loop .loop .inv .0) (judged .before .before .before .loop-test .taken) _ (judged .node .ensures) (word .before .state-word .ensures) (word .if1 .left) (c .before .before .before .keep .ensures) in
+    let taken = judged .before .before .before .loop-test .taken in
+    let kept = c .before .before .before .keep .ensures in
+    let more = running-more (start .pre .1 .0) (loop .loop .inv .0) taken _ (judged .node .ensures) (word .before .state-word .ensures) (word .if1 .left) kept in
     (more, judged .node .kept .1 .1 .1 .1 .1 .0 ∙ loop .loop .inv .1))
     (λ c. search needs)
     (λ c. search needs)
