@@ -47,7 +47,8 @@ some-bit = bin-ind (λ (n : ℕ). 0 < n → (i : ℕ) × Yes (bit n i)) (λ h. a
 -- an operation that goes bit by bit, by what it does to one bit
 module _ (op : ℕ → ℕ → ℕ) (test : Bool → Bool → Bool) (none : eqb (op 0 0) 1 ≡ test false false) (right : eqb (op 0 1) 1 ≡ test false true)
     (left : eqb (op 1 0) 1 ≡ test true false) (both : eqb (op 1 1) 1 ≡ test true true)
-    (shifted : (a b k : ℕ) → op a b / 2 ^ k ≡ op (a / 2 ^ k) (b / 2 ^ k)) (lowest : (a b k : ℕ) → op a b % 2 ^ k ≡ op (a % 2 ^ k) (b % 2 ^ k)) where
+    (shifted : (a b k : ℕ) → op a b / 2 ^ k ≡ op (a / 2 ^ k) (b / 2 ^ k))
+    (lowest : (a b k : ℕ) → op a b % 2 ^ k ≡ op (a % 2 ^ k) (b % 2 ^ k)) where
   op-digit : (a b : ℕ) → a < 2 → b < 2 → eqb (op a b) 1 ≡ test (eqb a 1) (eqb b 1)
   op-digit zero zero h k = none
   op-digit zero (suc zero) h k = right
@@ -73,9 +74,11 @@ pub bit-power : (q i : ℕ) → bit (2 ^ q) i ≡ eqb i q
 unfolding bit
 bit-power zero zero = refl
 bit-power zero (suc i) = bit-suc 1 i ∙ bit-none i ∙ sym (eqb·suc-zero i)
-bit-power (suc q) zero = bit-first (2 ^ suc q) ∙ ap (λ (x : ℕ). eqb (x % 2) 1) (pow-suc 2 q) ∙ ap (λ (x : ℕ). eqb x 1) (mul-mod-left (2 ^ q) 2) ∙ sym (eqb·zero-suc q)
+bit-power (suc q) zero = bit-first (2 ^ suc q) ∙ ap (λ (x : ℕ). eqb (x % 2) 1) (pow-suc 2 q) ∙ ap (λ (x : ℕ). eqb x 1)
+    (mul-mod-left (2 ^ q) 2) ∙ sym (eqb·zero-suc q)
 bit-power (suc q) (suc i) =
-    bit-suc (2 ^ suc q) i ∙ ap (λ (x : ℕ). bit (x / 2) i) (pow-suc 2 q) ∙ ap (λ (x : ℕ). bit x i) (mul-div-cancel (2 ^ q) (lit< tt)) ∙ bit-power q i
+    bit-suc (2 ^ suc q) i ∙ ap (λ (x : ℕ). bit (x / 2) i) (pow-suc 2 q) ∙ ap (λ (x : ℕ). bit x i)
+    (mul-div-cancel (2 ^ q) (lit< tt)) ∙ bit-power q i
     ∙ sym (eqb·suc-suc i q)
 
 -- `(set >> q) & 1 == 1`
@@ -108,7 +111,8 @@ module _ (flag : Bool) (set q : ℕ) (f : set < 2 ^ 64) where
   with-bit y =
       let h : q < 64 = ltb-true q 64 (and-right flag (ltb q 64) y) in
       rw (shifted-one q h)
-      (mask-bits 64 (bitOr set (2 ^ q)) _ (or-lt 64 set (2 ^ q) f (pow-lt h)) (λ j l. bit-or set (2 ^ q) j ∙ rw (bit-power q j, and-left flag (ltb q 64) y)))
+      (mask-bits 64 (bitOr set (2 ^ q)) _ (or-lt 64 set (2 ^ q) f (pow-lt h))
+      (λ j l. bit-or set (2 ^ q) j ∙ rw (bit-power q j, and-left flag (ltb q 64) y)))
 
   pub without-bit : (flag && ltb q 64) ≡ false → set ≡ mask 64 (λ j. bit set j || (flag && eqb j q))
   without-bit n = mask-bits 64 set _ f (λ j l. sym (ap (λ b. bit set j || b) (go j l flag n) ∙ or-false (bit set j)))

@@ -35,7 +35,8 @@ by-members (x ∷ y ∷ l) = several
 ascending-gist : (l : List ℕ) → Ascending l → Gist l (by-members l)
 ascending-gist [] a = λ q m. List·Memᴰ·not-nil m
 ascending-gist (x ∷ []) a = (List·Memᴰ·head refl, λ r m. List·Memᴰ·eq-of-singleton m)
-ascending-gist (x ∷ y ∷ l) (a, b) = (x, y, List·Memᴰ·head refl, List·Memᴰ·tail (List·Memᴰ·head refl), λ e. let h = a y (List·Memᴰ·head refl) in omega arith)
+ascending-gist (x ∷ y ∷ l) (a, b) =
+    (x, y, List·Memᴰ·head refl, List·Memᴰ·tail (List·Memᴰ·head refl), λ e. let h = a y (List·Memᴰ·head refl) in omega arith)
 
 -- a gist is of the members alone
 same-gist : {l m : List ℕ} (g : Reached) → ((q : ℕ) → (q ∈ l) ↔ (q ∈ m)) → Gist l g → Gist m g
@@ -48,7 +49,8 @@ module _ {set : ℕ} {l : List ℕ} (s : Stands set l) where
   gist-members =
       let m = members 64 set in
       let own : Stands set m = members-stand (s .fits) in
-      let alike : (q : ℕ) → (q ∈ m) ↔ (q ∈ l) = λ q. (λ n. has-∈ l (sym (s .same q) ∙ own .same q ∙ ∈-has n), λ n. has-∈ m (sym (own .same q) ∙ s .same q ∙ ∈-has n)) in
+      let alike : (q : ℕ) → (q ∈ m) ↔ (q ∈ l) = λ q.
+      (λ n. has-∈ l (sym (s .same q) ∙ own .same q ∙ ∈-has n), λ n. has-∈ m (sym (own .same q) ∙ s .same q ∙ ∈-has n)) in
       one-gist l (gist l) (by-members m) (gist-is l) (same-gist (by-members m) alike (ascending-gist m (members-set 64 set .ascends)))
 
   pub gist-nothing : length (members 64 set) ≡ 0 → gist l ≡ nothing

@@ -77,7 +77,8 @@ and-even : (n : ℕ) → n % 2 ≡ 0 → bitAnd n (n - 1) ≡ bitAnd (n / 2) (n 
 and-even n e = let below : (n - 1) / 2 ≡ n / 2 - 1 = omega arith in omega (arith, and-step n (n - 1), ap (bitAnd (n / 2)) below)
 
 and-odd : (n d : ℕ) → n % 2 ≡ suc d → bitAnd n (n - 1) ≡ n / 2 * 2
-and-odd n d e = let below : (n - 1) / 2 ≡ n / 2 = omega arith in omega (arith, and-step n (n - 1), ap (bitAnd (n / 2)) below, and-self (n / 2))
+and-odd n d e = let below : (n - 1) / 2 ≡ n / 2 = omega arith in
+    omega (arith, and-step n (n - 1), ap (bitAnd (n / 2)) below, and-self (n / 2))
 
 members-even : (k h : ℕ) → members (suc k) (h * 2) ≡ map suc (members k h)
 members-even k h =

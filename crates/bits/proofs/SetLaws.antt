@@ -13,7 +13,8 @@ use borrow.Author.Tests.{ltb-true, ltb-false}
 use Rattle.model.specs.Lists.{has, only, SetBelow}
 use Rattle.model.specs.Sheet.{W, mask, bit, members}
 use Rattle.model.specs.Words.{meets}
-use Rattle.model.proofs.Tests.{Yes, Told, yea, nay, told, never, and-yes, and-left, and-right, or-left, or-right, or-cases, not-yes, same, eqb-yes, eqb-no, eqb-false}
+use Rattle.model.proofs.Tests.{Yes, Told, yea, nay, told, never, and-yes, and-left, and-right, or-left, or-right, or-cases, not-yes, same}
+use Rattle.model.proofs.Tests.{eqb-yes, eqb-no, eqb-false}
 use Rattle.model.proofs.ListLaws.{∈-has, has-∈, has-no, asc-ext}
 use Rattle.model.proofs.SetWords.{bit-mask, mask-<, members-set, has-members}
 use Rattle.bits.specs.Stands.{Stands}
@@ -32,7 +33,8 @@ zero-stands = record { fits = lit< tt; same = λ q. bit-power 0 q ∙ sym (or-fa
 -- a set is 0 exactly if its list is empty
 pub stands-none : {set : ℕ} {l : List ℕ} → Stands set l → set ≡ 0 → l ≡ []
 stands-none {l = []} s e = refl
-stands-none {l = x ∷ l} s e = never (sym (ap (λ (n : ℕ). bit n x) e ∙ bit-none x) ∙ s .same x ∙ ∈-has {q = x} {l = x ∷ l} (List·Memᴰ·head refl))
+stands-none {l = x ∷ l} s e = never
+    (sym (ap (λ (n : ℕ). bit n x) e ∙ bit-none x) ∙ s .same x ∙ ∈-has {q = x} {l = x ∷ l} (List·Memᴰ·head refl))
 
 pub stands-some : {set : ℕ} {l : List ℕ} → Stands set l → set ≢ 0 → (x : ℕ) × (xs : List ℕ) × (l ≡ x ∷ xs)
 unfolding has
@@ -77,7 +79,8 @@ pub gathers-none : (l : List ℕ) → Gathers 0 l l
 gathers-none l = record { fits = lit< tt; both = λ q. ap (λ b. b || has l q) (bit-none q) }
 
 -- the bits of a set with q, where a flag holds
-pub bit-with : (flag : Bool) (set q j : ℕ) → set < 2 ^ 64 → q < 64 → bit (mask 64 (λ j. bit set j || (flag && eqb j q))) j ≡ (bit set j || (flag && eqb j q))
+pub bit-with : (flag : Bool) (set q j : ℕ) → set < 2 ^ 64 → q < 64 → bit (mask 64 (λ j. bit set j || (flag && eqb j q))) j ≡
+    (bit set j || (flag && eqb j q))
 bit-with flag set q j f h = go (told (ltb j 64))
   where
     other : 64 ≤ j → (b : Bool) → (b && eqb j q) ≡ false
@@ -122,7 +125,8 @@ unfolding has meets
 meets-common [] l y = never y
 meets-common (v ∷ xs) l y = go (meets-common xs l) (or-cases (has l v) (meets xs l) y)
   where
-    go : (Yes (meets xs l) → (x : ℕ) × Yes (has xs x) × Yes (has l x)) → Yes (has l v) ⊎ Yes (meets xs l) → (x : ℕ) × Yes (eqb x v || has xs x) × Yes (has l x)
+    go : (Yes (meets xs l) → (x : ℕ) × Yes (has xs x) × Yes (has l x)) → Yes (has l v) ⊎ Yes (meets xs l) → (x : ℕ) × Yes
+        (eqb x v || has xs x) × Yes (has l x)
     go rest (inl z) = (v, or-left (has xs v) (eqb-yes {m = v} refl), z)
     go rest (inr y) = let (x, u, z) = rest y in (x, or-right (eqb x v) u, z)
 

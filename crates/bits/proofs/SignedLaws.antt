@@ -56,10 +56,12 @@ module _ (z : ℤ) (f : SFits w32 z) (h : ltZ (toZ w32 (ofZ w32 z)) (pos 0) ≡ 
   below-back : toZ w32 (ofZ w32 (negsuc 0 -ℤ toZ w32 (ofZ w32 z))) ≡ pos (mag z)
   below-back = toZ-ofZ below-fits ∙ below-is
 
-  pub below-cast : T (nonNeg (toZ w32 (ofZ w32 (negsuc 0 -ℤ toZ w32 (ofZ w32 z))))) × Fits w32 (natAbs (toZ w32 (ofZ w32 (negsuc 0 -ℤ toZ w32 (ofZ w32 z)))))
+  pub below-cast : T (nonNeg (toZ w32 (ofZ w32 (negsuc 0 -ℤ toZ w32 (ofZ w32 z))))) × Fits w32
+      (natAbs (toZ w32 (ofZ w32 (negsuc 0 -ℤ toZ w32 (ofZ w32 z)))))
   below-cast = rw below-back (tt, record { fits = omega (arith, f .sfits) })
 
-  pub remainder-below : (m : ℕ) → (m ≡ 0 → ⊥) → m - 1 - natAbs (toZ w32 (ofZ w32 (negsuc 0 -ℤ toZ w32 (ofZ w32 z)))) % m ≡ cond (eqb m 0) 0 (remainder-of z m)
+  pub remainder-below : (m : ℕ) → (m ≡ 0 → ⊥) → m - 1 - natAbs (toZ w32 (ofZ w32 (negsuc 0 -ℤ toZ w32 (ofZ w32 z)))) % m ≡ cond (eqb m 0) 0
+      (remainder-of z m)
   unfolding remainder-of
   remainder-below m n = rw (below-back, ne-eqb m 0 n) (go z (rw (toZ-ofZ f) at h))
     where

@@ -47,6 +47,7 @@ module _ {n : Numbers} {x y : Said} (t : Tells n x) {r : ℕ} {out : List ℕ} w
       (k ∙ t .kind ∙ ap kind-of e, o ∙ rw (t .kind, t .first, t .second) (ap (λ s. filled lent (kind-of s) (first-of s) (second-of s)) e))
 
   -- beside what the call promises of another lent buffer
-  pub handed-with : {Buffer : Type 0} → (x ≡ y) × Buffer → (lent : List ℕ) → (r ≡ n .kind) × (out ≡ filled lent (n .kind) (n .first) (n .second))
+  pub handed-with : {Buffer : Type 0} → (x ≡ y) × Buffer → (lent : List ℕ) → (r ≡ n .kind) ×
+      (out ≡ filled lent (n .kind) (n .first) (n .second))
       → (r ≡ kind-of y) × ((out ≡ answer-after lent y) × Buffer)
   handed-with (e, b) lent h = let (k, o) = handed e lent h in (k, (o, b))

@@ -2,7 +2,8 @@
 // the kind and the two values over in a lent array of 64-bit words. An array that is too short for them gets as many as fit, so a
 // caller who lends none loses the values and nothing else.
 ghost use mathlib.Core.Path.{_≡_};
-ghost use Rattle.model.specs.Calls.{names-said, read-said, read-tree, tree-said, write-said, write-out, sheet-said, from-file-said, from-file-sheet, judge-said, judge-states, swap-said, swap-out, join-said, join-out, formcheck};
+ghost use Rattle.model.specs.Calls.{names-said, read-said, read-tree, tree-said, write-said, write-out, sheet-said, from-file-said};
+ghost use Rattle.model.specs.Calls.{from-file-sheet, judge-said, judge-states, swap-said, swap-out, join-said, join-out, formcheck};
 ghost use Rattle.answers.specs.Numbers.{kind-of};
 ghost use Rattle.capi.specs.Lent.{filled, answer-after};
 use answers::Numbers;

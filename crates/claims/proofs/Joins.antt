@@ -17,7 +17,8 @@ use Rattle.model.specs.Compose.{pair, swapped, joint}
 use Rattle.model.specs.Calls.{swap, join}
 use Rattle.model.proofs.Answered.{Promised, front-left}
 use Rattle.model.specs.Answers.{looks-in}
-use Rattle.model.proofs.Demand3.{Reading, Sheet-on, TakesTo, AcceptsIt, NoTwo, join-passes, swap-passes, joint-looks, joint-gives-no-two, joint-takes-pair, joint-accepts-both, swapped-accepts-rest}
+use Rattle.model.proofs.Demand3.{Reading, Sheet-on, TakesTo, AcceptsIt, NoTwo, join-passes, swap-passes, joint-looks, joint-gives-no-two}
+use Rattle.model.proofs.Demand3.{joint-takes-pair, joint-accepts-both, swapped-accepts-rest}
 use Rattle.judge.proofs.Claims as judge
 
 module _ {tree : List ℕ} {e : Element} where
@@ -37,8 +38,10 @@ module _ {tree : List ℕ} {e : Element} where
 
   -- `join`, lent S, T and a buffer, counts n words; `judge`, lent the first n words of what it leaves, the tree and room for the states,
   -- gives an answer.
-  module _ (S T : Sheet-on tree e) {out left : List ℕ} {r : Answer} {n : ℕ} (joined : Promised (join (S .words) (T .words) (length out)) out r left) (counted : r ≡ Count n)
-      {states after : List ℕ} {answer : Judgement} (judged : judge.Promised (take n left) tree states answer after) (room : size e ≤ length states) where
+  module _ (S T : Sheet-on tree e) {out left : List ℕ} {r : Answer} {n : ℕ}
+      (joined : Promised (join (S .words) (T .words) (length out)) out r left) (counted : r ≡ Count n)
+      {states after : List ℕ} {answer : Judgement} (judged : judge.Promised (take n left) tree states answer after)
+      (room : size e ≤ length states) where
     joins : join (S .words) (T .words) (length out) ≡ passes (take n left)
     joins = front-left joined counted
 
@@ -63,7 +66,8 @@ module _ {tree : List ℕ} {e : Element} where
       gives-no-two = joint-gives-no-two S T J (length out) joins a b S-one T-one
 
       -- It takes the form to the pair (q, r) exactly when S takes it to q and T to r.
-      pub takes-pair : (u v w : Reading) (q r : ℕ) → r < T .sheet .states → TakesTo w J (pair (T .sheet .states) q r) ↔ (TakesTo u S q × TakesTo v T r)
+      pub takes-pair : (u v w : Reading) (q r : ℕ) → r < T .sheet .states → TakesTo w J (pair (T .sheet .states) q r) ↔
+          (TakesTo u S q × TakesTo v T r)
       unfolding J judged-on
       takes-pair = joint-takes-pair S T J (length out) joins a b S-one T-one
 
@@ -73,8 +77,10 @@ module _ {tree : List ℕ} {e : Element} where
       accepts-both = joint-accepts-both S T J (length out) joins a b S-one T-one
 
   -- `swap`, lent S and a buffer, counts n words; `judge`, lent the first n words of what it leaves, gives an answer.
-  module _ (S : Sheet-on tree e) {out left : List ℕ} {r : Answer} {n : ℕ} (turned : Promised (swap (S .words) (length out)) out r left) (counted : r ≡ Count n)
-      {states after : List ℕ} {answer : Judgement} (judged : judge.Promised (take n left) tree states answer after) (room : size e ≤ length states) where
+  module _ (S : Sheet-on tree e) {out left : List ℕ} {r : Answer} {n : ℕ} (turned : Promised (swap (S .words) (length out)) out r left)
+      (counted : r ≡ Count n)
+      {states after : List ℕ} {answer : Judgement} (judged : judge.Promised (take n left) tree states answer after)
+      (room : size e ≤ length states) where
     swaps : swap (S .words) (length out) ≡ passes (take n left)
     swaps = front-left turned counted
 

@@ -24,11 +24,13 @@ pub record Reads (list text tree : List ℕ) (r : Answer) (left : List ℕ) : Ty
 
 -- The promises that are proved of the code give these: `Post` is how the `ensures` of a function read, of lifetimes κs, arguments a,
 -- answer r, and x, what the arguments hold at the end.
-pub read-promised : (κs : _) (a : _) (r : Answer) (x : _) → of-read.Post κs a r x → Reads (now (a .0)) (now (a .1 .0)) (now (a .1 .1 .0)) r (now (x .1 .1 .0))
+pub read-promised : (κs : _) (a : _) (r : Answer) (x : _) → of-read.Post κs a r x → Reads (now (a .0)) (now (a .1 .0)) (now (a .1 .1 .0)) r
+    (now (x .1 .1 .0))
 read-promised κs a r x (answer, buffer) = record { answer = answer; buffer = buffer }
 
 pub write-promised : (κs : _) (a : _) (r : Answer) (x : _) → of-write.Post κs a r x
-    → Promised (write (now (a .0)) (now (a .1 .0)) (now (a .1 .1 .0)) (length (now (a .1 .1 .1 .0)))) (now (a .1 .1 .1 .0)) r (now (x .1 .1 .1 .0))
+    → Promised (write (now (a .0)) (now (a .1 .0)) (now (a .1 .1 .0)) (length (now (a .1 .1 .1 .0)))) (now (a .1 .1 .1 .0)) r
+    (now (x .1 .1 .1 .0))
 unfolding write-said write-out
 write-promised κs a r x (answer, buffer) = record { answer = answer; buffer = buffer }
 
@@ -40,7 +42,8 @@ counts f c (Error x) h p = let (m, i, says) = refusal-says x in let z : _≡_ {A
 
 -- `write`, lent a tree, the text it was read from and a buffer, counts m bytes; `read`, lent the first m bytes of what it leaves and
 -- room for the tree, gives the tree again: its words are the same but for text starts.
-module _ (list text tree : List ℕ) {out bytes : List ℕ} {w : Answer} {m : ℕ} (written : Promised (write list text tree (length out)) out w bytes) (counted : w ≡ Count m)
+module _ (list text tree : List ℕ) {out bytes : List ℕ} {w : Answer} {m : ℕ}
+    (written : Promised (write list text tree (length out)) out w bytes) (counted : w ≡ Count m)
     {buffer left : List ℕ} {r : Answer} (reads : Reads list (take m bytes) buffer r left) (room : length tree ≤ length buffer) where
   pub read-again : (n : ℕ) × (r ≡ Count n) × (without-starts (take (n * 4) left) ≡ without-starts tree)
   unfolding read-said
@@ -53,9 +56,13 @@ module _ (list text tree : List ℕ) {out bytes : List ℕ} {w : Answer} {m : �
 
 -- `read` counts n nodes; `write`, lent their words, the text and a buffer as long as the text, isn't refused.
 module _ (list text : List ℕ) {buffer left : List ℕ} {r : Answer} {n : ℕ} (reads : Reads list text buffer r left) (counted : r ≡ Count n)
-    {out bytes : List ℕ} {w : Answer} (written : Promised (write list text (take (n * 4) left) (length out)) out w bytes) (room : length text ≤ length out) where
+    {out bytes : List ℕ} {w : Answer} (written : Promised (write list text (take (n * 4) left) (length out)) out w bytes)
+    (room : length text ≤ length out) where
   pub written-back : (m : ℕ) × (w ≡ Count m)
   written-back =
       let (d, passed, _, front) = read-counted list text buffer (reads .answer) (reads .buffer) counted in
-      let (b, writes) = read-write list text (length buffer) passed (length out) room in
-      (length b, counts length (write list text (take (n * 4) left) (length out)) w (written .answer) (ap (λ t. write list text t (length out)) front ∙ writes))
+      let (b, writes) = read-write list text (length buffer) passed (length out) room in (
+        length b,
+        counts length (write list text (take (n * 4) left) (length out)) w (written .answer)
+            (ap (λ t. write list text t (length out)) front ∙ writes),
+      )

@@ -11,7 +11,8 @@ use Rattle.model.specs.Sheet.{Order, Step, Rule, one, two, three, set-words, ar
 use Rattle.model.specs.Spans.{OrderAt, CountAt, RuleAt, there-is, map-of, ordered, counted, order-part}
 use Rattle.model.specs.Index.{sheet-in, key}
 use Rattle.model.proofs.PartLaws.{word-is}
-use Rattle.model.proofs.RuleWords.{order-room, is-there, not-there, content-map, is-ordered, is-counted, order-at, count-stands, target-there, rule-there}
+use Rattle.model.proofs.RuleWords.{order-room, is-there, not-there, content-map, is-ordered, is-counted, order-at, count-stands}
+use Rattle.model.proofs.RuleWords.{target-there, rule-there}
 use Rattle.model.proofs.RuleWords.{text-key, tag-key}
 use Rattle.parts.specs.Lengths.{order-length, key-by}
 use Rattle.join_alike.specs.declared.Spot.{Spot}
@@ -72,7 +73,8 @@ module _ {p a : ℕ} {s : List ℕ} where
   key-word (two g c q) h = rw (tag-key h .0, tag-key h .1) (omega (arith, h .ranges .1))
   key-word (three o φ q) h = rw (content-map h) (go (there-is o) (there-is φ))
     where
-      go : (b d : Bool) → cond (eqb (map-of b d) 33) (min (getD s (a + 1) 0) 2) (cond (eqb (map-of b d) 38) (2 + min (getD s (a + 1) 0) 64) 0) ≡ 0
+      go : (b d : Bool) → cond (eqb (map-of b d) 33) (min (getD s (a + 1) 0) 2)
+          (cond (eqb (map-of b d) 38) (2 + min (getD s (a + 1) 0) 64) 0) ≡ 0
       go true true = refl
       go true false = refl
       go false true = refl

@@ -11,7 +11,8 @@ use lib.Dec.{leb}
 use lib.ListN.{length, getD, length-append, length-map}
 use borrow.Author.Tests as tests
 use Rattle.model.specs.Lists.{every, numbers, row, grid}
-use Rattle.model.specs.Sheet.{Order, Step, and-step, Rule, one, two, three, order-words, set-words, count-words, RuleInRange, OrderInRange, CountInRange, IfAny}
+use Rattle.model.specs.Sheet.{Order, Step, and-step, Rule, one, two, three, order-words, set-words, count-words, RuleInRange, OrderInRange}
+use Rattle.model.specs.Sheet.{CountInRange, IfAny}
 use Rattle.model.specs.Spans.{OrderAt, CountAt, there-is, order-part}
 use Rattle.model.specs.Index.{sheet-in}
 use Rattle.model.specs.Compose as model
@@ -96,7 +97,8 @@ steps-word h = word-here (h .there)
 
 module _ {s : List ℕ} {x : Spot} (h : SpotOf s x) where
   module _ {r : Bool} (e : r ≡ there-is (parts-of (rule-of s x) .count)) where
-    pub steps-there : r ≡ true → {c w : ℕ} → c ≡ x .at + 1 + length (order-part (parts-of (rule-of s x) .order)) → w ≡ getD s c 0 → w ≡ steps-of (rule-of s x)
+    pub steps-there : r ≡ true → {c w : ℕ} → c ≡ x .at + 1 + length
+        (order-part (parts-of (rule-of s x) .order)) → w ≡ getD s c 0 → w ≡ steps-of (rule-of s x)
     steps-there t at f =
         let (ss, i) = is-there (parts-of (rule-of s x) .count) (sym e ∙ t) in
         f ∙ steps-word (count-here h at i) ∙ ap count-steps (sym i) ∙ by-count (rule-of s x)
@@ -152,7 +154,8 @@ length-grid f (a ∷ as′) bs =
 lifted-arcs : (side : Side) (n : model.Sizes) (o : Order) → length (lift-order side n o .arcs) ≡ length (o .arcs) * of-other side n
 unfolding lift-order
 lifted-arcs side n o =
-    length-grid (lift-arc side n) (o .arcs) (numbers (of-other side n)) ∙ ap (λ (k : ℕ). length (o .arcs) * k) (length-from (of-other side n) 0)
+    length-grid (lift-arc side n) (o .arcs) (numbers (of-other side n)) ∙ ap (λ (k : ℕ). length (o .arcs) * k)
+    (length-from (of-other side n) 0)
 
 -- of two order parts
 joint-positions : (n : model.Sizes) (p q : ℕ) (o u : Option Order) → IfAny (OrderInRange p) o → IfAny (OrderInRange q) u
@@ -161,9 +164,11 @@ joint-positions : (n : model.Sizes) (p q : ℕ) (o u : Option Order) → IfAny (
 unfolding joint-order lift-order pair-order
 joint-positions n p q none none h k = refl
 joint-positions n p q none (some u) h k = refl
-joint-positions n p q (some o) none h k = first-alone (o .positions) 0 (o .positions) 0 (o .positions * 0) (omega (arith, h .some-positions)) refl
+joint-positions n p q (some o) none h k = first-alone (o .positions) 0 (o .positions) 0 (o .positions * 0)
+    (omega (arith, h .some-positions)) refl
 joint-positions n p q (some o) (some u) h k =
-    both-there (o .positions) (u .positions) (o .positions) (u .positions) (o .positions * u .positions) (omega (arith, h .some-positions)) (omega (arith, k .some-positions))
+    both-there (o .positions) (u .positions) (o .positions) (u .positions) (o .positions * u .positions) (omega (arith, h .some-positions))
+    (omega (arith, k .some-positions))
 
 joint-arcs : (n : model.Sizes) (p q : ℕ) (o u : Option Order) → IfAny (OrderInRange p) o → IfAny (OrderInRange q) u
     → order-arcs (joint-order n o u)
@@ -172,14 +177,17 @@ unfolding joint-order pair-order
 joint-arcs n p q none none h k = omega arith
 joint-arcs n p q none (some u) h k = lifted-arcs T n u
 joint-arcs n p q (some o) none h k =
-    lifted-arcs S n o ∙ first-alone (o .positions) 0 (length (o .arcs) * n .of-T) (0 * n .of-S) (length (o .arcs) * 0) (omega (arith, h .some-positions)) refl
+    lifted-arcs S n o ∙ first-alone (o .positions) 0 (length (o .arcs) * n .of-T) (0 * n .of-S) (length (o .arcs) * 0)
+    (omega (arith, h .some-positions)) refl
 joint-arcs n p q (some o) (some u) h k =
     length-grid (pair-arc (u .positions) (n .of-T)) (o .arcs) (u .arcs)
-    ∙ both-there (o .positions) (u .positions) (length (o .arcs) * n .of-T) (length (u .arcs) * n .of-S) (length (o .arcs) * length (u .arcs)) (omega (arith, h .some-positions)) (omega (arith, k .some-positions))
+    ∙ both-there (o .positions) (u .positions) (length (o .arcs) * n .of-T) (length (u .arcs) * n .of-S)
+    (length (o .arcs) * length (u .arcs)) (omega (arith, h .some-positions)) (omega (arith, k .some-positions))
 
 -- of two count parts
 joint-steps : (n : model.Sizes) (p q : ℕ) (φ ψ : Option (List Step)) → IfAny (CountInRange p) φ → IfAny (CountInRange q) ψ
-    → count-steps (joint-count n φ ψ) ≡ of-parts (count-steps φ) (count-steps ψ) (count-steps φ) (count-steps ψ) (count-steps φ + count-steps ψ + 1)
+    → count-steps (joint-count n φ ψ) ≡ of-parts (count-steps φ) (count-steps ψ) (count-steps φ) (count-steps ψ)
+    (count-steps φ + count-steps ψ + 1)
 unfolding joint-count
 joint-steps n p q none none h k = refl
 joint-steps n p q none (some ts) h k = length-map ts (lift-step T n 0)
@@ -190,14 +198,22 @@ joint-steps n p q (some ss) (some ts) h k =
     let upper = map (lift-step T n (length ss)) ts in
     let last = and-step (length ss - 1) (length ss + (length ts - 1)) ∷ [] in
     let long : length (lower ++ (upper ++ last)) ≡ length ss + length ts + 1
-    = omega (arith, length-append lower (upper ++ last), length-append upper last, length-map ss (lift-step S n 0), length-map ts (lift-step T n (length ss))) in
-    long ∙ both-there (length ss) (length ts) (length ss) (length ts) (length ss + length ts + 1) (omega (arith, h .some-steps)) (omega (arith, k .some-steps))
+    = omega (
+      arith,
+      length-append lower (upper ++ last),
+      length-append upper last,
+      length-map ss (lift-step S n 0),
+      length-map ts (lift-step T n (length ss)),
+    ) in
+    long ∙ both-there (length ss) (length ts) (length ss) (length ts) (length ss + length ts + 1) (omega (arith, h .some-steps))
+    (omega (arith, k .some-steps))
 
 -- ---- the joint rule of two with one key
 
 -- its numbers, by those of the two
 record JointExtent (n : model.Sizes) (x y z : Rule) : Type 0 where
-  positions : positions-of z ≡ of-parts (positions-of x) (positions-of y) (positions-of x) (positions-of y) (positions-of x * positions-of y)
+  positions : positions-of z ≡ of-parts (positions-of x) (positions-of y) (positions-of x) (positions-of y)
+      (positions-of x * positions-of y)
   arcs : arcs-of z ≡ of-parts (positions-of x) (positions-of y) (arcs-of x * n .of-T) (arcs-of y * n .of-S) (arcs-of x * arcs-of y)
   steps : steps-of z ≡ of-parts (steps-of x) (steps-of y) (steps-of x) (steps-of y) (steps-of x + steps-of y + 1)
 
@@ -226,11 +242,13 @@ and-true true = refl
 and-true false = refl
 
 -- the place of one rule
-one-place : (z : Rule) {m n k l : ℕ} → m ≡ positions-of z → n ≡ arcs-of z → k ≡ steps-of z → l ≡ first-of (leb m 64) (leb n 1024) (leb k 32) → l ≡ place-in (z ∷ [])
+one-place : (z : Rule) {m n k l : ℕ} → m ≡ positions-of z → n ≡ arcs-of z → k ≡ steps-of z → l ≡ first-of (leb m 64) (leb n 1024)
+    (leb k 32) → l ≡ place-in (z ∷ [])
 unfolding place-in every
 one-place z {m} {n} {k} em en ek e = e ∙ sym (rw (← em, ← en, ← ek, and-true (leb m 64), and-true (leb n 1024), and-true (leb k 32)))
 
-module _ {u v : List ℕ} {n : Sizes} {r : RulePair} (h : Alike u v n r) {x y : Extent} (i : ExtentOf (rule-of u (r .s)) x) (j : ExtentOf (rule-of v (r .t)) y) where
+module _ {u v : List ℕ} {n : Sizes} {r : RulePair} (h : Alike u v n r) {x y : Extent} (i : ExtentOf (rule-of u (r .s)) x)
+    (j : ExtentOf (rule-of v (r .t)) y) where
   pub pair-tallied : {m a k l : ℕ} → m ≡ of-parts (x .positions) (y .positions) (x .positions) (y .positions) (x .positions * y .positions)
       → a ≡ of-parts (x .positions) (y .positions) (x .arcs * n .t) (y .arcs * n .s) (x .arcs * y .arcs)
       → k ≡ of-parts (x .steps) (y .steps) (x .steps) (y .steps) (x .steps + y .steps + 1)
@@ -238,7 +256,10 @@ module _ {u v : List ℕ} {n : Sizes} {r : RulePair} (h : Alike u v n r) {x y : 
   pair-tallied em ea ek e =
       let (z, w) = alike-paired h in
       let all = joint-extent (sheet-in u .states) (sheet-in v .states) w (h .first .begins .ranges) (h .second .begins .ranges) in
-      let m = em ∙ like (i .positions) (j .positions) (i .positions) (j .positions) (ap₂ (_*_) (i .positions) (j .positions)) ∙ sym (all .positions) in
-      let a = ea ∙ like (i .positions) (j .positions) (ap (λ (b : ℕ). b * n .t) (i .arcs)) (ap (λ (b : ℕ). b * n .s) (j .arcs)) (ap₂ (_*_) (i .arcs) (j .arcs)) ∙ sym (all .arcs) in
-      let k = ek ∙ like (i .steps) (j .steps) (i .steps) (j .steps) (ap₂ (λ (b c : ℕ). b + c + 1) (i .steps) (j .steps)) ∙ sym (all .steps) in
+      let m = em ∙ like (i .positions) (j .positions) (i .positions) (j .positions)
+      (ap₂ (_*_) (i .positions) (j .positions)) ∙ sym (all .positions) in
+      let a = ea ∙ like (i .positions) (j .positions) (ap (λ (b : ℕ). b * n .t) (i .arcs)) (ap (λ (b : ℕ). b * n .s) (j .arcs))
+      (ap₂ (_*_) (i .arcs) (j .arcs)) ∙ sym (all .arcs) in
+      let k = ek ∙ like (i .steps) (j .steps) (i .steps) (j .steps)
+      (ap₂ (λ (b c : ℕ). b + c + 1) (i .steps) (j .steps)) ∙ sym (all .steps) in
       rw (paired-rule w) (record { rules = refl; place = one-place z m a k e })

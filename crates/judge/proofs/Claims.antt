@@ -14,7 +14,8 @@ use Rattle.model.specs.Sheet.{Sheet, sheet-of}
 use Rattle.model.specs.Relation.{AtMostOne, ReachesTwo, Single, GivesTwo, Takes, NoState, SomeState, StatesOf, Highest}
 use Rattle.model.specs.Calls.{judge-said, judge-states}
 use Rattle.model.specs.Answers.{looks-in}
-use Rattle.model.proofs.Demand2.{Names, verdict-names, verdict-accepts, verdict-two, verdict-two-at, verdict-stuck, verdict-stuck-at, states-say, states-zeroed, states-past, looks-bound}
+use Rattle.model.proofs.Demand2.{Names, verdict-names, verdict-accepts, verdict-two, verdict-two-at, verdict-stuck, verdict-stuck-at}
+use Rattle.model.proofs.Demand2.{states-say, states-zeroed, states-past, looks-bound}
 use Rattle.judge.proofs.judge.Reads as reads
 
 -- What `judge` promises of its answer r and of the states that it leaves: its three `ensures`, on the words that it is lent.
@@ -25,7 +26,8 @@ pub record Promised (sheet tree states : List ℕ) (r : Judgement) (left : List 
 
 -- The promise that is proved of the code gives this one: `reads.Post` is how the `ensures` of `judge` read, of lifetimes κs, arguments
 -- a, answer r, and x, what the arguments hold at the end.
-pub promised : (κs : _) (a : _) (r : Judgement) (x : _) → reads.Post κs a r x → Promised (now (a .0)) (now (a .1 .0)) (now (a .1 .1 .0)) r (now (x .1 .1 .0))
+pub promised : (κs : _) (a : _) (r : Judgement) (x : _) → reads.Post κs a r x → Promised (now (a .0)) (now (a .1 .0)) (now (a .1 .1 .0)) r
+    (now (x .1 .1 .0))
 promised κs a r x (answer, (buffer, bound)) = record { answer = answer; buffer = buffer; bound = bound }
 
 module _ {sheet tree states left : List ℕ} {r : Judgement} (promise : Promised sheet tree states r left) {s : Sheet} {e : Element}

@@ -28,21 +28,25 @@ use Rattle.judge_run.specs.Run.{Form, verdict-on, states-on}
 -- ---- a sheet and a tree that pass
 
 -- A sheet that passes has its index at the front of the buffer.
-pub sheet-indexed : (s old : List ℕ) {index : List ℕ} {r : Answer} {n : ℕ} → said r ≡ sheet-said s → index ≡ index-after old s → r ≡ Count n → Indexed s index
+pub sheet-indexed : (s old : List ℕ) {index : List ℕ} {r : Answer} {n : ℕ} → said r ≡ sheet-said s → index ≡ index-after old s → r ≡ Count
+    n → Indexed s index
 unfolding sheet-said index-after buffer-after _>>=_
 sheet-indexed s old {index} e ei c =
     let (t, p, _) = answered.counted (λ t. length s) (sheet-of s) e c in
     let (ok, _) = passes-in p in
     let ws = index-words (sheet-in s) in
-    let is : index ≡ ws ++ drop (length ws) old = ei ∙ ap (λ (x : Checked Sheet). buffer-after old (x >>= λ t. passes (index-words t))) (ok .as-sheet) in
-    let rest : drop (length ws) index ≡ drop (length ws) old = ap (drop (length ws)) is ∙ drop-at ws (drop (length ws) old) (length ws) refl in
+    let is : index ≡ ws ++ drop (length ws) old = ei ∙ ap (λ (x : Checked Sheet). buffer-after old (x >>= λ t. passes (index-words t)))
+    (ok .as-sheet) in
+    let rest : drop (length ws) index ≡ drop (length ws) old = ap (drop (length ws)) is ∙ drop-at ws (drop (length ws) old)
+    (length ws) refl in
     record { sheet = ok; there = record { stands = is ∙ ap (λ (l : List ℕ). ws ++ l) (sym rest); ends = omega arith } }
 
 -- a tree is checked over the sheet's tags
 by-tags : {s index : List ℕ} (tree : List ℕ) → Indexed s index → tree-of (sheet-in s .tags) tree ≡ tree-of (getD s 4 0) tree
 by-tags tree h = ap (λ (g : ℕ). tree-of g tree) (sym (tags-word (h .sheet)))
 
-pub tree-counted : {s index : List ℕ} (tree : List ℕ) → Indexed s index → {g : ℕ} → g ≡ getD s 4 0 → {r : Answer} {n : ℕ} → said r ≡ tree-said g tree → r ≡ Count n
+pub tree-counted : {s index : List ℕ}
+    (tree : List ℕ) → Indexed s index → {g : ℕ} → g ≡ getD s 4 0 → {r : Answer} {n : ℕ} → said r ≡ tree-said g tree → r ≡ Count n
     → Form s tree n
 tree-counted {s} tree h eg e c =
     let (f, p, n) = answered.tree-counted (getD s 4 0) tree (rw eg at e) c in
@@ -73,7 +77,8 @@ module _ (sheet tree states : List ℕ) where
       unfolding judge-said judge-states judge verdict-of states-after _>>=_ _>>_ require room-for
       at-room h = rw (ok, tok, lt-leb _ _ h) (refl, refl)
 
-      pub at-nodes : size e ≤ length states → Answers (verdict (s .final) (run (s .rules) (items tree))) (first-states (size e) (run (s .rules) (items tree)) ++ drop (size e) states)
+      pub at-nodes : size e ≤ length states → Answers (verdict (s .final) (run (s .rules) (items tree)))
+          (first-states (size e) (run (s .rules) (items tree)) ++ drop (size e) states)
       unfolding judge-said judge-states judge verdict-of states-after _>>=_ _>>_ require room-for
       at-nodes h = rw (ok, tok, le-leb _ _ h) (refl, refl)
 
@@ -96,7 +101,8 @@ module _ (sheet tree states : List ℕ) where
   pub few-looks : Few
   few-looks = by-sheet (sheet-of sheet) refl
     where
-      by-room : (s : Sheet) → sheet-of sheet ≡ passes s → (e : Element) → tree-of (s .tags) tree ≡ passes e → Told (leb (size e) (length states)) → Few
+      by-room : (s : Sheet) → sheet-of sheet ≡ passes s → (e : Element) → tree-of (s .tags) tree ≡ passes e → Told
+          (leb (size e) (length states)) → Few
       by-room s ok e tok (yea h) = few-judged ok tok (leb-true _ _ h)
       by-room s ok e tok (nay h) = few-refused (at-room ok tok (leb-false _ _ h))
 
@@ -111,7 +117,8 @@ module _ (sheet tree states : List ℕ) where
   -- ---- the call's three promises, of what is said and written
 
   abbrev Promises : Said → List ℕ → Type 0
-  Promises x out = (x ≡ judge-said sheet tree states) × ((out ≡ judge-states sheet tree states) × (looks-in x ≤ 2 * (length tree / 4) * getD sheet 5 0))
+  Promises x out = (x ≡ judge-said sheet tree states) ×
+      ((out ≡ judge-states sheet tree states) × (looks-in x ≤ 2 * (length tree / 4) * getD sheet 5 0))
 
   promised : {x y : Said} {out : List ℕ} → x ≡ y → Answers y out → Promises x out
   promised e (a, b) = let f = e ∙ a in (f, (b, rw f few-looks))
@@ -123,7 +130,8 @@ module _ (sheet tree states : List ℕ) where
 
   module _ {index : List ℕ} (h : Indexed sheet index) where
     -- the tree's
-    pub tree-refused : {g : ℕ} → g ≡ getD sheet 4 0 → {r : Answer} {x : Refusal} → said r ≡ tree-said g tree → r ≡ Error x → Promises (said-refusal x) states
+    pub tree-refused : {g : ℕ} → g ≡ getD sheet 4 0 → {r : Answer} {x : Refusal} → said r ≡ tree-said g tree → r ≡ Error x → Promises
+        (said-refusal x) states
     tree-refused eg e c =
         let (i, p, f) = answered.tree-refused (getD sheet 4 0) tree (rw eg at e) c in
         promised f (at-tree (h .sheet .as-sheet) (by-tags tree h ∙ p))
@@ -134,7 +142,8 @@ module _ (sheet tree states : List ℕ) where
       room-refused l = rw (← f .nodes) (promised refl (at-room (h .sheet .as-sheet) (f .as-tree) (rw (← f .nodes) at l)))
 
       -- the nodes judged, with their state words in the first n
-      pub nodes-judged : n ≤ length states → {x : Said} {out : List ℕ} → x ≡ verdict-on sheet tree → out ≡ states-on sheet tree (take n states)
+      pub nodes-judged : n ≤ length states → {x : Said} {out : List ℕ} → x ≡ verdict-on sheet tree → out ≡ states-on sheet tree
+          (take n states)
           → Promises x (out ++ drop n states)
       nodes-judged l e eo =
           promised e (rw (eo, length-take-le n states l, ← f .nodes) (at-nodes (h .sheet .as-sheet) (f .as-tree) (rw (← f .nodes) at l)))

@@ -30,7 +30,8 @@ getD-last [] b (suc j) = sym (ap (λ t. b && t) (eqb·suc-zero j) ∙ and-false 
 getD-last (x ∷ l) b zero = sym (ap (λ t. x || (b && t)) (eqb·zero-suc (length l)) ∙ ap (λ t. x || t) (and-false b) ∙ or-false x)
 getD-last (x ∷ l) b (suc j) = getD-last l b j ∙ ap (λ t. getD l j false || (b && t)) (sym (eqb·suc-suc j (length l)))
 
-one-truth : {set i r : ℕ} {earlier : List Bool} (b : Bool) → Truths set earlier → length earlier ≡ i → i < 64 → r ≡ mask 64 (λ j. bit set j || (b && eqb j i)) → Truths r (earlier ++ (b ∷ []))
+one-truth : {set i r : ℕ} {earlier : List Bool} (b : Bool) → Truths set earlier → length earlier ≡ i → i < 64 → r ≡ mask 64
+    (λ j. bit set j || (b && eqb j i)) → Truths r (earlier ++ (b ∷ []))
 one-truth {set} {i} {earlier = earlier} b t n h e = rw e (record {
   fits = mask-< 64 _;
   same = λ j.
@@ -58,7 +59,8 @@ pub record StepsLeft (part counts : List ℕ) (steps set at i : ℕ) : Type 0 wh
 -- the step in hand, and what its truth makes of the rest
 record Turn (part : List ℕ) (h : CountPart part) (w : List ℕ) (set at i : ℕ) (earlier : List Bool) : Type 0 where
   step : StepFrom part at
-  more : (r : ℕ) (b : Bool) → r ≡ mask 64 (λ j. bit set j || (b && eqb j i)) → b ≡ holds w earlier (step .step) → Rest part h w r (step .next) (i + 1)
+  more : (r : ℕ) (b : Bool) → r ≡ mask 64 (λ j. bit set j || (b && eqb j i)) → b ≡ holds w earlier (step .step) → Rest part h w r
+      (step .next) (i + 1)
 
 module _ {part : List ℕ} (h : CountPart part) where
   pub steps-there : 0 < length part
@@ -77,7 +79,8 @@ module _ {part : List ℕ} (h : CountPart part) where
   first-step w = record {
     rest = h .steps;
     earlier = [];
-    here = subst (λ (l : List ℕ). WordsAt l 1 (length l) (flatMap (step-words (h .states)) (h .steps))) (sym (h .coded)) (word-next (whole (count-words (h .states) (h .steps))));
+    here = subst (λ (l : List ℕ). WordsAt l 1 (length l) (flatMap (step-words (h .states)) (h .steps))) (sym (h .coded))
+        (word-next (whole (count-words (h .states) (h .steps))));
     in-range = h .in-range .steps;
     known = no-truth;
     number = refl;
@@ -90,14 +93,23 @@ module _ {part : List ℕ} (h : CountPart part) where
     unfolding flatMap truths
     turn t l = go (t .rest) (t .here) (t .in-range) (t .ahead) (t .whole)
       where
-        go : (rest : List Step) → WordsAt part at (length part) (flatMap (step-words (h .states)) rest) → StepsInRange (h .states) i rest → i + length rest ≡ length (h .steps)
+        go : (rest : List Step) → WordsAt part at (length part) (flatMap (step-words (h .states)) rest) → StepsInRange
+            (h .states) i rest → i + length rest ≡ length (h .steps)
             → truths w (t .earlier) rest ≡ truths w [] (h .steps) → Turn part h w set at i (t .earlier)
         go [] k g a e = absurd (omega arith)
         go (s ∷ ss) k (g, gs) a e =
             let u = step-words (h .states) s in
             let v = flatMap (step-words (h .states)) ss in
             record {
-              step = record { states = h .states; number = i; step = s; next = at + length u; few-states = h .few-states; in-range = g; stands = span-left u v k };
+              step = record {
+                states = h .states;
+                number = i;
+                step = s;
+                next = at + length u;
+                few-states = h .few-states;
+                in-range = g;
+                stands = span-left u v k;
+              };
               more = λ r b er eb. record {
                 rest = ss;
                 earlier = t .earlier ++ (b ∷ []);
@@ -114,7 +126,8 @@ module _ {part : List ℕ} (h : CountPart part) where
     unfolding truths
     last-truths t l = go (t .rest) (t .ahead) (t .whole)
       where
-        go : (rest : List Step) → i + length rest ≡ length (h .steps) → truths w (t .earlier) rest ≡ truths w [] (h .steps) → t .earlier ≡ truths w [] (h .steps)
+        go : (rest : List Step) → i + length rest ≡ length (h .steps) → truths w (t .earlier) rest ≡ truths w []
+            (h .steps) → t .earlier ≡ truths w [] (h .steps)
         go [] a e = e
         go (s ∷ ss) a e = absurd (omega arith)
 

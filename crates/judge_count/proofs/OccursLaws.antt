@@ -36,7 +36,12 @@ unfolding states-of
 length-states words = length-map words (λ x. x - 1)
 
 pub no-count : {words : List ℕ} → CountsLeft words (replicate 64 0) 0
-no-count {words} = record { within = omega arith; long = refl; makes = λ q. ap (λ (n : ℕ). n + occurrences q (states-of words)) (none q 64) ∙ omega arith }
+no-count {words} = record {
+  within = omega arith;
+  long = refl;
+  makes = λ q. ap (λ (n : ℕ). n + occurrences q (states-of words))
+      (none q 64) ∙ omega arith;
+}
   where
     none : (q n : ℕ) → getD {A = ℕ} (replicate n 0) q 0 ≡ 0
     none q zero = refl
@@ -50,7 +55,8 @@ module _ {words counts : List ℕ} {i : ℕ} (left : CountsLeft words counts i) 
     here = getD words i 0 - 1
 
     -- what is left, with this state in front
-    ahead : (x : ℕ) → getD counts x 0 + (cond (eqb x here) 1 0 + occurrences x (states-of (drop (i + 1) words))) ≡ occurrences x (states-of words)
+    ahead : (x : ℕ) → getD counts x 0 + (cond (eqb x here) 1 0 + occurrences x (states-of (drop (i + 1) words))) ≡ occurrences x
+        (states-of words)
     unfolding states-of occurrences
     ahead x = rw add-one (rw (drop-cons words i 0 h) at (left .makes x))
 
@@ -60,15 +66,24 @@ module _ {words counts : List ℕ} {i : ℕ} (left : CountsLeft words counts i) 
     pub one-count : here < 64 → CountsLeft words (set counts here (getD counts here 0 + 1)) (i + 1)
     one-count l = record { within = omega arith; long = length-set counts here _ ∙ left .long; makes = λ x. go x (told (eqb x here)) }
       where
-        go : (x : ℕ) → Told (eqb x here) → getD (set counts here (getD counts here 0 + 1)) x 0 + occurrences x (states-of (drop (i + 1) words)) ≡ occurrences x (states-of words)
+        go : (x : ℕ) → Told (eqb x here) → getD (set counts here (getD counts here 0 + 1)) x 0 + occurrences x
+            (states-of (drop (i + 1) words)) ≡ occurrences x (states-of words)
         go x (yea y) =
             let e : x ≡ here = same x here y in
-            rw e (omega (arith, rw (eqb-yes {m = here} refl) at (ahead here), getD-set-same counts here (getD counts here 0 + 1) 0 (omega (arith, left .long))))
+            rw e (omega (
+              arith,
+              rw (eqb-yes {m = here} refl) at (ahead here),
+              getD-set-same counts here (getD counts here 0 + 1) 0 (omega (arith, left .long)),
+            ))
         go x (nay n) = omega (arith, rw n at (ahead x), getD-set-other counts here x (getD counts here 0 + 1) 0 (eqb-no n))
 
   pub all-counted : StateWords words → length words ≤ i → Occurs counts (states-of words)
   unfolding states-of occurrences
-  all-counted ok h = record { each = λ q. omega (arith, rw (drop-of-length-le words h) at (left .makes q)); few = omega (arith, length-states words, ok .few) }
+  all-counted ok h = record {
+    each = λ q. omega (arith, rw (drop-of-length-le words h) at (left .makes q));
+    few =
+        omega (arith, length-states words, ok .few);
+  }
 
 -- ---- different states
 
@@ -80,7 +95,8 @@ among (q ∷ l) w = occurrences q w + among l w
 occurrences-none : (x : ℕ) (l : List ℕ) → (x ∈ l → ⊥) → occurrences x l ≡ 0
 unfolding occurrences
 occurrences-none x [] n = refl
-occurrences-none x (q ∷ l) n = rw (eqb-false {m = x} {n = q} (λ e. n (List·Memᴰ·head e))) (omega (arith, occurrences-none x l (λ m. n (List·Memᴰ·tail m))))
+occurrences-none x (q ∷ l) n = rw (eqb-false {m = x} {n = q} (λ e. n (List·Memᴰ·head e)))
+    (omega (arith, occurrences-none x l (λ m. n (List·Memᴰ·tail m))))
 
 ascending-once : (x : ℕ) (l : List ℕ) → Ascending l → occurrences x l ≤ 1
 unfolding occurrences

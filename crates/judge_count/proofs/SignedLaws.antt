@@ -44,7 +44,8 @@ small-fits {z} h = record { sfits = lt-of-le-of-lt (go z) h }
 
 -- ---- total + times × count
 
-module _ {total times : ℤ} {count : ℕ} (ft : SFits w32 total) (fc : SFits w32 times) (h : natAbs total + natAbs times * count < 2 ^ 31) (hn : count < 2 ^ 31) where
+module _ {total times : ℤ} {count : ℕ} (ft : SFits w32 total) (fc : SFits w32 times) (h : natAbs total + natAbs times * count < 2 ^ 31)
+    (hn : count < 2 ^ 31) where
   times-is : toZ w32 (ofZ w32 times) *ℤ toZ w32 count ≡ times *ℤ pos count
   times-is = ap₂ _*ℤ_ (toZ-ofZ fc) (toZ-pos w32 hn)
 
@@ -57,5 +58,6 @@ module _ {total times : ℤ} {count : ℕ} (ft : SFits w32 total) (fc : SFits w3
   pub plus-fits : SFits w32 (toZ w32 (ofZ w32 total) +ℤ toZ w32 (ofZ w32 (toZ w32 (ofZ w32 times) *ℤ toZ w32 count)))
   plus-fits = rw plus-is (small-fits (omega (arith, abs-times times count, abs-plus total (times *ℤ pos count))))
 
-  pub plus-times : toZ w32 (ofZ w32 (toZ w32 (ofZ w32 total) +ℤ toZ w32 (ofZ w32 (toZ w32 (ofZ w32 times) *ℤ toZ w32 count)))) ≡ total +ℤ (times *ℤ pos count)
+  pub plus-times : toZ w32 (ofZ w32 (toZ w32 (ofZ w32 total) +ℤ toZ w32 (ofZ w32 (toZ w32 (ofZ w32 times) *ℤ toZ w32 count)))) ≡ total +ℤ
+      (times *ℤ pos count)
   plus-times = toZ-ofZ plus-fits ∙ plus-is

@@ -10,7 +10,8 @@ use lib.IntN.{ℤ}
 use lib.Signed.{leZ}
 use lib.ListN.{length, getD}
 use borrow.Author.Tests.{ne-eqb}
-use Rattle.model.specs.Sheet.{Step, at-most, remainder, not-step, and-step, or-step, sum-words, signed-word, step-words, StepInRange, signed, bit}
+use Rattle.model.specs.Sheet.{Step, at-most, remainder, not-step, and-step, or-step, sum-words, signed-word, step-words, StepInRange}
+use Rattle.model.specs.Sheet.{signed, bit}
 use Rattle.model.specs.Words.{total, remainder-of, holds}
 use Rattle.model.specs.Spans.{WordsAt}
 use Rattle.model.proofs.Spans.{span-left, span-right, word-there, word-here, word-next}
@@ -31,7 +32,8 @@ pub record RemainderAt (part : List ℕ) (at next : ℕ) (s : Step) : Type 0 whe
   pub room : sum .next + 1 < length part
   pub ends : sum .next + 2 ≡ next
   pub some-modulus : getD part (sum .next) 0 ≢ 0
-  pub says : (w : List ℕ) (earlier : List Bool) → eqb (remainder-of (total (sum .coefficients) w) (getD part (sum .next) 0)) (getD part (sum .next + 1) 0) ≡ holds w earlier s
+  pub says : (w : List ℕ) (earlier : List Bool) → eqb (remainder-of (total (sum .coefficients) w) (getD part (sum .next) 0))
+      (getD part (sum .next + 1) 0) ≡ holds w earlier s
 
 pub record NotAt (part : List ℕ) (at next : ℕ) (s : Step) : Type 0 where
   pub room : at + 1 < length part
@@ -41,7 +43,8 @@ pub record NotAt (part : List ℕ) (at next : ℕ) (s : Step) : Type 0 where
 pub record PairAt (op : Bool → Bool → Bool) (part : List ℕ) (at next : ℕ) (s : Step) : Type 0 where
   pub room : at + 2 < length part
   pub ends : at + 3 ≡ next
-  pub says : (w : List ℕ) (earlier : List Bool) → op (getD earlier (getD part (at + 1) 0) false) (getD earlier (getD part (at + 2) 0) false) ≡ holds w earlier s
+  pub says : (w : List ℕ) (earlier : List Bool) → op (getD earlier (getD part (at + 1) 0) false)
+      (getD earlier (getD part (at + 2) 0) false) ≡ holds w earlier s
 
 abbrev pub Said : ℕ → List ℕ → ℕ → ℕ → Step → Type 0
 Said zero part at next s = ⊥
@@ -54,20 +57,34 @@ Said (suc (suc (suc (suc (suc (suc k)))))) part at next s = ⊥
 
 module _ {part : List ℕ} {at : ℕ} where
   -- two words behind the kind
-  two-behind : {next k i j : ℕ} → WordsAt part at next (k ∷ i ∷ j ∷ []) → (at + 2 < length part) × (at + 3 ≡ next) × (getD part (at + 1) 0 ≡ i) × (getD part (at + 2) 0 ≡ j)
+  two-behind : {next k i j : ℕ} → WordsAt part at next (k ∷ i ∷ j ∷ []) → (at + 2 < length part) × (at + 3 ≡ next) ×
+      (getD part (at + 1) 0 ≡ i) × (getD part (at + 2) 0 ≡ j)
   two-behind {next} k =
       let second : WordsAt part (at + 1 + 1) next (_ ∷ []) = word-next (word-next k) in
-      let place : at + 1 + 1 ≡ at + 2 = omega arith in
-      (omega (arith, word-there second), omega (arith, k .ends), word-here (word-next k), ap (λ (n : ℕ). getD part n 0) (sym place) ∙ word-here second)
+      let place : at + 1 + 1 ≡ at + 2 = omega arith in (
+        omega (arith, word-there second),
+        omega (arith, k .ends),
+        word-here (word-next k),
+        ap (λ (n : ℕ). getD part n 0) (sym place) ∙ word-here second,
+      )
 
-  says : (p i next : ℕ) (s : Step) → p ≤ 64 → StepInRange p i s → WordsAt part at next (step-words p s) → Said (getD part at 0) part at next s
+  says : (p i next : ℕ) (s : Step) → p ≤ 64 → StepInRange p i s → WordsAt part at next (step-words p s) → Said
+      (getD part at 0) part at next s
   unfolding step-words holds
   says p i next (at-most cs b) few (h, y) k =
       let u = sum-words p cs in
       let v : List ℕ = signed-word b ∷ [] in
       let last : WordsAt part (at + 1 + length u) next v = span-right u v (word-next k) in
       rw (word-here k) (record {
-        sum = record { states = p; coefficients = cs; next = at + 1 + length u; few-states = few; in-range = h; stands = span-left u v (word-next k) };
+        sum = record {
+          states = p;
+          coefficients = cs;
+          next = at + 1 + length u;
+          few-states = few;
+          in-range = h;
+          stands = span-left u v
+              (word-next k);
+        };
         room = word-there last;
         ends = sym (last .ends);
         says = λ w earlier. ap (leZ (total cs w)) (ap signed (word-here last) ∙ signed-back b y);
@@ -77,7 +94,15 @@ module _ {part : List ℕ} {at : ℕ} where
       let v : List ℕ = m ∷ r ∷ [] in
       let last : WordsAt part (at + 1 + length u) next v = span-right u v (word-next k) in
       rw (word-here k) (record {
-        sum = record { states = p; coefficients = cs; next = at + 1 + length u; few-states = few; in-range = h; stands = span-left u v (word-next k) };
+        sum = record {
+          states = p;
+          coefficients = cs;
+          next = at + 1 + length u;
+          few-states = few;
+          in-range = h;
+          stands = span-left u v
+              (word-next k);
+        };
         room = word-there (word-next last);
         ends = sym (last .ends);
         some-modulus = λ e. omega (arith, word-here last);
@@ -91,10 +116,20 @@ module _ {part : List ℕ} {at : ℕ} where
       })
   says p i next (and-step j l) few h k =
       let (room, ends, ej, el) = two-behind k in
-      rw (word-here k) (record { room = room; ends = ends; says = λ w earlier. ap₂ (λ (m n : ℕ). getD earlier m false && getD earlier n false) ej el })
+      rw (word-here k) (record {
+        room = room;
+        ends = ends;
+        says = λ w earlier. ap₂
+            (λ (m n : ℕ). getD earlier m false && getD earlier n false) ej el;
+      })
   says p i next (or-step j l) few h k =
       let (room, ends, ej, el) = two-behind k in
-      rw (word-here k) (record { room = room; ends = ends; says = λ w earlier. ap₂ (λ (m n : ℕ). getD earlier m false || getD earlier n false) ej el })
+      rw (word-here k) (record {
+        room = room;
+        ends = ends;
+        says = λ w earlier. ap₂
+            (λ (m n : ℕ). getD earlier m false || getD earlier n false) ej el;
+      })
 
   -- every step begins with its kind
   pub kind-there : StepFrom part at → at < length part
@@ -110,7 +145,8 @@ module _ {part : List ℕ} {at : ℕ} where
 
   -- what a step says, by its kind k
   pub said : (k : ℕ) → getD part at 0 ≡ k → (h : StepFrom part at) → Said k part at (h .next) (h .step)
-  said k e h = subst (λ (x : ℕ). Said x part at (h .next) (h .step)) e (says (h .states) (h .number) (h .next) (h .step) (h .few-states) (h .in-range) (h .stands))
+  said k e h = subst (λ (x : ℕ). Said x part at (h .next) (h .step)) e
+      (says (h .states) (h .number) (h .next) (h .step) (h .few-states) (h .in-range) (h .stands))
 
 -- no step is of another kind
 pub no-kind : (part : List ℕ) (at next : ℕ) (s : Step) (k : ℕ) → Said k part at next s → k ≢ 1 → k ≢ 2 → k ≢ 3 → k ≢ 4 → k ≢ 5 → ⊥
@@ -125,11 +161,13 @@ no-kind part at next s (suc (suc (suc (suc (suc (suc k)))))) t a b c d e = t
 -- ---- what the code finds
 
 -- after a sum up to word e
-module _ {part counts : List ℕ} {at e : ℕ} {z : ℤ} (sum : Summed part (at + 1) counts e z) {next : ℕ} {s : Step} {w : List ℕ} (o : Occurs counts w) where
+module _ {part counts : List ℕ} {at e : ℕ} {z : ℤ} (sum : Summed part (at + 1) counts e z) {next : ℕ} {s : Step} {w : List ℕ}
+    (o : Occurs counts w) where
   pub at-most-room : AtMostAt part at next s → e < length part
   at-most-room a = omega (arith, sum (a .sum) w o .0, a .room)
 
-  pub at-most-found : {b : ℤ} → b ≡ signed (getD part e 0) → AtMostAt part at next s → (earlier : List Bool) → (e + 1 ≡ next) × (leZ z b ≡ holds w earlier s)
+  pub at-most-found : {b : ℤ} → b ≡ signed (getD part e 0) → AtMostAt part at next s → (earlier : List Bool) → (e + 1 ≡ next) ×
+      (leZ z b ≡ holds w earlier s)
   at-most-found eb a earlier =
       let (ee, ez) = sum (a .sum) w o in
       (omega (arith, a .ends), ap₂ leZ ez (eb ∙ ap (λ (n : ℕ). signed (getD part n 0)) ee) ∙ a .says w earlier)
@@ -137,7 +175,8 @@ module _ {part counts : List ℕ} {at e : ℕ} {z : ℤ} (sum : Summed part (at 
   pub remainder-room : RemainderAt part at next s → e + 1 < length part
   remainder-room a = omega (arith, sum (a .sum) w o .0, a .room)
 
-  pub remainder-found : {r : ℕ} → r ≡ cond (eqb (getD part e 0) 0) 0 (remainder-of z (getD part e 0)) → RemainderAt part at next s → (earlier : List Bool)
+  pub remainder-found : {r : ℕ} → r ≡ cond (eqb (getD part e 0) 0) 0 (remainder-of z (getD part e 0)) → RemainderAt part at next s →
+      (earlier : List Bool)
       → (e + 2 ≡ next) × (eqb r (getD part (e + 1) 0) ≡ holds w earlier s)
   remainder-found er a earlier =
       let (ee, ez) = sum (a .sum) w o in
@@ -148,6 +187,7 @@ module _ {part : List ℕ} {at truths next : ℕ} {s : Step} {earlier : List Boo
   pub not-found : {a : Bool} → a ≡ bit truths (getD part (at + 1) 0) → NotAt part at next s → (at + 2 ≡ next) × (not a ≡ holds w earlier s)
   not-found ea n = (n .ends, ap not (ea ∙ t .same _) ∙ n .says w earlier)
 
-  pub pair-found : (op : Bool → Bool → Bool) {a b : Bool} → a ≡ bit truths (getD part (at + 1) 0) → b ≡ bit truths (getD part (at + 2) 0) → PairAt op part at next s
+  pub pair-found : (op : Bool → Bool → Bool) {a b : Bool} → a ≡ bit truths (getD part (at + 1) 0) → b ≡ bit truths
+      (getD part (at + 2) 0) → PairAt op part at next s
       → (at + 3 ≡ next) × (op a b ≡ holds w earlier s)
   pair-found op ea eb p = (p .ends, ap₂ op (ea ∙ t .same _) (eb ∙ t .same _) ∙ p .says w earlier)

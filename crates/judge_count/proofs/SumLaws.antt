@@ -66,12 +66,14 @@ module _ {part : List ℕ} {from : ℕ} (h : SumFrom part from) where
   module _ {r : ℕ} (e : r ≡ getD part from 0 + getD part (from + 1) 0 * W) where
     marks-stand : Stands r (marks (h .coefficients))
     unfolding sum-words set-words
-    marks-stand = words-stand (h .states) (marks (h .coefficients)) (h .few-states) (h .in-range .marked) (rw (word-here (h .stands), word-here (word-next (h .stands))) at e)
+    marks-stand = words-stand (h .states) (marks (h .coefficients)) (h .few-states) (h .in-range .marked)
+        (rw (word-here (h .stands), word-here (word-next (h .stands))) at e)
 
     marks-members : members 64 r ≡ marks (h .coefficients)
     marks-members =
         let m = h .in-range .marked in
-        stands-members marks-stand (record { ascends = m .ascends; below = λ q n. let l = m .below q n in let f = h .few-states in omega arith })
+        stands-members marks-stand (record
+        { ascends = m .ascends; below = λ q n. let l = m .below q n in let f = h .few-states in omega arith })
 
     first-terms : {w : List ℕ} → length w ≤ 4096 → Terms part (h .next) (h .coefficients) w r (from + 2) (pos 0)
     unfolding sum-words set-words
@@ -84,7 +86,8 @@ module _ {part : List ℕ} {from : ℕ} (h : SumFrom part from) where
       bounded = omega (arith, among-≤ (marks (h .coefficients)) w (h .in-range .marked .ascends));
     }
 
-pub no-term : {part counts : List ℕ} {from r : ℕ} → SumFrom part from → r ≡ getD part from 0 + getD part (from + 1) 0 * W → SumLeft part counts from r (from + 2) (pos 0)
+pub no-term : {part counts : List ℕ} {from r : ℕ} → SumFrom part from → r ≡ getD part from 0 + getD part
+    (from + 1) 0 * W → SumLeft part counts from r (from + 2) (pos 0)
 no-term h e = record { fits = marks-stand h e .fits; terms = λ k w o. first-terms k e (o .few) }
 
 -- ---- the next term
@@ -98,11 +101,13 @@ record Next (part : List ℕ) (end : ℕ) (all : List Coefficient) (w : List ℕ
   below : first .state < 64
   room : natAbs sum + natAbs (first .times) * occurrences (first .state) w ≤ 32768 * 4096
   many : occurrences (first .state) w ≤ 4096
-  more : (r : ℕ) → members 64 r ≡ drop 1 (members 64 set) → Terms part end all w r (at + 1) (sum +ℤ (first .times *ℤ pos (occurrences (first .state) w)))
+  more : (r : ℕ) → members 64 r ≡ drop 1 (members 64 set) → Terms part end all w r (at + 1)
+      (sum +ℤ (first .times *ℤ pos (occurrences (first .state) w)))
 
 module _ {part : List ℕ} {end : ℕ} {all : List Coefficient} {w : List ℕ} {set at : ℕ} {sum : ℤ} (f : set < 2 ^ 64) where
   next-of : (rest : List Coefficient) → set ≢ 0 → members 64 set ≡ marks rest → WordsAt part at end (map (λ c. signed-word (c .times)) rest)
-      → ((c : Coefficient) → c ∈ rest → Yes (small (c .times))) → sum +ℤ total rest w ≡ total all w → natAbs sum + 32768 * among (marks rest) w ≤ 32768 * 4096
+      → ((c : Coefficient) → c ∈ rest → Yes (small (c .times))) → sum +ℤ total rest w ≡ total all w → natAbs sum + 32768 * among
+      (marks rest) w ≤ 32768 * 4096
       → Next part end all w set at sum
   unfolding total among
   next-of [] n m words smalls adds bounded =
@@ -138,7 +143,8 @@ module _ {part : List ℕ} {end : ℕ} {all : List Coefficient} {w : List ℕ} {
   unfolding total
   no-more z t = go (t .rest) (sym (t .marked) ∙ stands-none (members-stand f) z) (t .words) (t .adds)
     where
-      go : (rest : List Coefficient) → marks rest ≡ [] → WordsAt part at end (map (λ c. signed-word (c .times)) rest) → sum +ℤ total rest w ≡ total all w
+      go : (rest : List Coefficient) → marks rest ≡ [] → WordsAt part at end
+          (map (λ c. signed-word (c .times)) rest) → sum +ℤ total rest w ≡ total all w
           → (at ≡ end) × (sum ≡ total all w)
       go [] e words adds = (omega (arith, words .ends), sym (+ℤ-idr sum) ∙ adds)
       go (c ∷ cs) e words adds = absurd (let o : _≡_ {A = ℕ} 0 1 = cc in omega arith)
@@ -146,7 +152,8 @@ module _ {part : List ℕ} {end : ℕ} {all : List Coefficient} {w : List ℕ} {
 module _ {part counts : List ℕ} {from set at : ℕ} {sum : ℤ} (left : SumLeft part counts from set at sum) where
   module _ (n : set ≢ 0) where
     pub fewer-left : (r : ℕ) → members 64 r ≡ drop 1 (members 64 set) → length (members 64 r) < length (members 64 set)
-    fewer-left r e = let (x, xs, c) = stands-some (members-stand (left .fits)) n in omega (arith, ap length e, ap length c, length-drop 1 (members 64 set))
+    fewer-left r e = let (x, xs, c) = stands-some
+        (members-stand (left .fits)) n in omega (arith, ap length e, ap length c, length-drop 1 (members 64 set))
 
     -- a coefficient stands here, of a state below 64
     pub term-place : SumFrom part from → Counts counts → (at < length part) × (getD (members 64 set) 0 64 < 64)
@@ -154,13 +161,15 @@ module _ {part counts : List ℕ} {from set at : ℕ} {sum : ℤ} (left : SumLef
 
     module _ {q : ℕ} {times : ℤ} (eq : q ≡ getD (members 64 set) 0 64) (et : times ≡ signed (getD part at 0)) where
       -- there is room for its term
-      pub term-room : SumFrom part from → Counts counts → (natAbs sum + natAbs times * getD counts q 0 < 2 ^ 31) × (getD counts q 0 < 2 ^ 31)
+      pub term-room : SumFrom part from → Counts counts → (natAbs sum + natAbs times * getD counts q 0 < 2 ^ 31) ×
+          (getD counts q 0 < 2 ^ 31)
       term-room h (w, o) =
           let t = next-term (left .fits) n (left .terms h w o) in
           let e : q ≡ t .first .state = eq ∙ t .state in
           rw (e, et, t .times, o .each (t .first .state)) (omega (arith, t .room), omega (arith, t .many))
 
-      pub one-term : {r : ℕ} {sum′ : ℤ} → sum′ ≡ sum +ℤ (times *ℤ pos (getD counts q 0)) → members 64 r ≡ drop 1 (members 64 set) → r < 2 ^ 64
+      pub one-term : {r : ℕ} {sum′ : ℤ} → sum′ ≡ sum +ℤ (times *ℤ pos (getD counts q 0)) → members 64 r ≡ drop 1
+          (members 64 set) → r < 2 ^ 64
           → SumLeft part counts from r (at + 1) sum′
       one-term {r} es em f = record {
         fits = f;

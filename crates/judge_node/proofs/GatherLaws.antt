@@ -40,10 +40,12 @@ pub gather-none : (tree states : List ℕ) (first end : ℕ) (words : List ℕ) 
 unfolding has
 gather-none tree states first end words = record { long = refl; few = (omega arith, omega arith); rest = refl; full = refl }
 
-module _ {tree states : List ℕ} {first end room : ℕ} {words : List ℕ} {n at : ℕ} (g : Gathering tree states first end room words n at) (t : Shaped tree (length states)) where
+module _ {tree states : List ℕ} {first end room : ℕ} {words : List ℕ} {n at : ℕ} (g : Gathering tree states first end room words n at)
+    (t : Shaped tree (length states)) where
   pub gather-done : end ≤ at → Gathered (Number n) (words-between tree states first end) words
   gather-done h =
-      let e : take n words ≡ words-between tree states first end = sym (append-nil (take n words)) ∙ rw (words-done states t refl at end h) at (g .rest) in
+      let e : take n words ≡ words-between tree states first end = sym (append-nil (take n words)) ∙ rw (words-done states t refl at end h)
+      at (g .rest) in
       (e, omega (arith, g .few, g .long), ap (λ (l : List ℕ). has l 0) (sym e) ∙ g .full)
 
   module _ (inside : at < end) (whole : end ≤ length states) where
@@ -71,12 +73,18 @@ module _ {tree states : List ℕ} {first end room : ℕ} {words : List ℕ} {n a
         record {
           long = length-set words n x ∙ g .long;
           few = (omega (arith, g .few), omega (arith, g .few));
-          rest = rw (e, append-assoc (take n words) (x ∷ []) (words-between tree states (at + z) end), ez, ← words-more states t refl at end inside whole) (g .rest);
+          rest = rw (
+            e,
+            append-assoc (take n words) (x ∷ []) (words-between tree states (at + z) end),
+            ez,
+            ← words-more states t refl at end inside whole,
+          ) (g .rest);
           full = rw e (has-append (take n words) (x ∷ []) 0 ∙ rw (g .full, eqb-false (λ k. nz (sym k))));
         }
 
 -- what was gathered, by its case
-pub all-gathered : {x : Children} {n : ℕ} (all words : List ℕ) → Gathered x all words → x ≡ Number n → (take n words ≡ all) × (n ≤ length words) × (has all 0 ≡ false)
+pub all-gathered : {x : Children} {n : ℕ} (all words : List ℕ) → Gathered x all words → x ≡ Number n → (take n words ≡ all) ×
+    (n ≤ length words) × (has all 0 ≡ false)
 all-gathered all words g e = subst (λ y. Gathered y all words) e g
 
 pub none-gathered : {x : Children} (all words : List ℕ) → Gathered x all words → x ≡ Stateless → has all 0 ≡ true

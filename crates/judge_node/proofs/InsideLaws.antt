@@ -15,7 +15,8 @@ use mir.Val.{Fits}
 use Rattle.model.specs.Lists.{has, only}
 use Rattle.model.specs.Tree.{symbol-at, size-at}
 use Rattle.model.specs.Sheet.{Rule, one, two, three, mask, bit}
-use Rattle.model.specs.Run.{at-tag, text-targets, content-targets, element-targets, kind, of-kind, unless-one, unless-none, element-looks, Item, items, child-words, child-states}
+use Rattle.model.specs.Run.{at-tag, text-targets, content-targets, element-targets, kind, of-kind, unless-one, unless-none, element-looks}
+use Rattle.model.specs.Run.{Item, items, child-words, child-states}
 use Rattle.model.specs.Index.{rules-in, Indexed}
 use Rattle.model.proofs.Tests.{never}
 use Rattle.model.proofs.PassedLaws.{in-range}
@@ -26,7 +27,8 @@ use Rattle.judge_rules.specs.Rules.{RulesOf, TagReaches}
 use Rattle.judge_rules.specs.Found.{Finds, FindsContent}
 use Rattle.judge_rules.specs.declared.numbers.Rules.{Rules}
 use Rattle.judge_rules.specs.declared.contents.Found.{Found}
-use Rattle.judge_node.specs.Node.{Shaped, Small, words-between, words-inside, lone-states, inside-targets, inside-looks, node-targets, node-looks}
+use Rattle.judge_node.specs.Node.{Shaped, Small, words-between, words-inside, lone-states, inside-targets, inside-looks, node-targets}
+use Rattle.judge_node.specs.Node.{node-looks}
 use Rattle.judge_node.specs.Judging.{Gathered, Judging, FindsInside, TagFinds, FindsNode}
 use Rattle.judge_node.specs.declared.At.{At}
 use Rattle.judge_node.specs.declared.Children.{Children}
@@ -93,7 +95,11 @@ unfolding only
 lone-state zero n h m = absurd (n refl)
 lone-state (suc q) n h m =
     let e : suc q - 1 ≡ q = omega arith in
-    record { reached = gathers-all (gathers-more true q (omega arith) (rw e at m) (gathers-none (q ∷ []))); number = refl; few = omega arith }
+    record {
+      reached = gathers-all (gathers-more true q (omega arith) (rw e at m) (gathers-none (q ∷ [])));
+      number = refl;
+      few = omega arith;
+    }
 
 -- ---- what is inside a node
 
@@ -140,7 +146,8 @@ module _ {s index : List ℕ} {at : At} {tree states words : List ℕ} (j : Judg
         child-fits = record { fits = omega (arith, child-within, j .shaped .few) }
 
         -- one child
-        pub lone-inside : i + size ≤ i + 1 + z → {f : Found} → Finds (2 ^ 42) f (lone-states (getD states (i + 1) 0)) 0 → FindsInside R tree states i f
+        pub lone-inside : i + size ≤ i + 1 + z → {f : Found} → Finds (2 ^ 42) f
+            (lone-states (getD states (i + 1) 0)) 0 → FindsInside R tree states i f
         unfolding inside-targets inside-looks content-targets child-states
         lone-inside only f =
             rw (← e, words-more states (j .shaped) refl (i + 1) (i + size) some-inside end-within)
@@ -155,7 +162,10 @@ module _ {s index : List ℕ} {at : At} {tree states words : List ℕ} (j : Judg
         several-words : i + 1 + z < i + size → length (words-between tree states (i + 1) (i + size)) ≢ 1
         several-words several =
             let next = i + 1 + size-at tree (i + 1) in
-            rw (words-more states (j .shaped) refl (i + 1) (i + size) some-inside end-within, words-more states (j .shaped) refl next (i + size) (omega arith) end-within)
+            rw (
+              words-more states (j .shaped) refl (i + 1) (i + size) some-inside end-within,
+              words-more states (j .shaped) refl next (i + size) (omega arith) end-within,
+            )
             (λ e. absurd (omega arith))
 
     module _ {children : Children} (left : List ℕ) (got : Gathered children (words-between tree states (i + 1) (i + size)) left) where
@@ -169,7 +179,8 @@ module _ {s index : List ℕ} {at : At} {tree states words : List ℕ} (j : Judg
         pub gathered-within : n ≤ length left
         gathered-within = all-gathered _ left got is .1
 
-        pub gathered-words : size ≢ 1 → {z : ℕ} → z ≡ size-at tree (i + 1) → i + 1 + z < i + size → StateWords (take n left) × (length (take n left) ≢ 1)
+        pub gathered-words : size ≢ 1 → {z : ℕ} → z ≡ size-at tree (i + 1) → i + 1 + z < i + size → StateWords (take n left) ×
+            (length (take n left) ≢ 1)
         gathered-words more ez several =
             let (same, _, full) = all-gathered _ left got is in
             let small = words-small (i + size - (i + 1)) 0 (drop (i + 1) (items tree)) (drop (i + 1) states) (j .small) in
@@ -210,11 +221,13 @@ module _ {s index : List ℕ} (h : Indexed s index) {r : Rules} (k : RulesOf s r
   twos-fit l = record { fits = omega (arith, k .tags, kind-few 2) }
 
   -- the content reaches no state
-  pub tagged-unreached : (tag : ℕ) {inside : Found} → inside .targets ≡ 0 → TagFinds (rules-in s) tag inside (record { targets = 0; looks = inside .looks })
+  pub tagged-unreached : (tag : ℕ) {inside : Found} → inside .targets ≡ 0 → TagFinds (rules-in s) tag inside
+      (record { targets = 0; looks = inside .looks })
   tagged-unreached tag e = record {
     found = λ l n f.
         let none = stands-none (f .reached) e in
-        rw (none, no-tag tag (rules-in s)) (record { reached = none-stands; number = omega (arith, f .number); few = omega (arith, f .few) });
+        rw (none, no-tag tag (rules-in s))
+        (record { reached = none-stands; number = omega (arith, f .number); few = omega (arith, f .few) });
   }
 
   -- it reaches some
@@ -236,7 +249,8 @@ module _ {s index : List ℕ} {at : At} {tree states words : List ℕ} (j : Judg
   pub text-kind : 64 < symbol-at tree (at .node) → (1 ≤ symbol-at tree (at .node) - 64) × (symbol-at tree (at .node) - 64 ≤ 2)
   text-kind l = omega (arith, j .shaped .symbols (at .node) (j .node))
 
-  pub text-found : 64 < symbol-at tree (at .node) → {targets : ℕ} → Stands targets (text-targets (rules-in s) (symbol-at tree (at .node) - 64))
+  pub text-found : 64 < symbol-at tree (at .node) → {targets : ℕ} → Stands targets
+      (text-targets (rules-in s) (symbol-at tree (at .node) - 64))
       → FindsNode (rules-in s) tree states (at .node) (record { targets = targets; looks = at .rules .ones })
   unfolding node-targets node-looks
   text-found l r =
@@ -250,7 +264,8 @@ module _ {s index : List ℕ} {at : At} {tree states words : List ℕ} (j : Judg
   pub element-found : symbol-at tree (at .node) ≤ 64 → {inside f : Found} → FindsInside (rules-in s) tree states (at .node) inside
       → TagFinds (rules-in s) (symbol-at tree (at .node)) inside f → FindsNode (rules-in s) tree states (at .node) f
   unfolding node-targets node-looks inside-targets inside-looks element-targets element-looks
-  element-found l {inside} {f} h t = rw (le-ltb 64 (symbol-at tree (at .node)) l) (go (child-states (words-inside tree states (at .node))) h)
+  element-found l {inside} {f} h t = rw (le-ltb 64 (symbol-at tree (at .node)) l)
+      (go (child-states (words-inside tree states (at .node))) h)
     where
       go : (ws : Option (List ℕ)) → Finds (2 ^ 42) inside (inside-targets (rules-in s) ws) (inside-looks (rules-in s) ws)
           → Finds (2 ^ 43) f (element-targets (rules-in s) (symbol-at tree (at .node)) ws) (element-looks (rules-in s) ws)

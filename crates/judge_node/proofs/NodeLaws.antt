@@ -9,9 +9,11 @@ use native.Mathlib.Omega.{arith}
 use lib.Dec.{ltb}
 use lib.ListN.{length, getD, drop, length-drop}
 use lib.Seq.{drop-cons, drop-drop}
-use Rattle.model.specs.Tree.{Element, text, tag, Document, ε, _·_, size, sizeD, words, wordsD, is-text, Keeps, KeepsD, symbol-at, size-at, tree-of}
+use Rattle.model.specs.Tree.{Element, text, tag, Document, ε, _·_, size, sizeD, words, wordsD, is-text, Keeps, KeepsD, symbol-at, size-at}
+use Rattle.model.specs.Tree.{tree-of}
 use Rattle.model.specs.Sheet.{Rule}
-use Rattle.model.specs.Run.{text-targets, element-targets, of-kind, element-looks, gist, Item, items, child-words, child-states, ran, put, judge-text, judge-element, judge-node}
+use Rattle.model.specs.Run.{text-targets, element-targets, of-kind, element-looks, gist, Item, items, child-words, child-states, ran, put}
+use Rattle.model.specs.Run.{judge-text, judge-element, judge-node}
 use Rattle.model.specs.Answers.{passes}
 use Rattle.model.proofs.TreeLaws.{length-words, tree-passes}
 use Rattle.judge_node.specs.Node.{Shaped, words-between, words-inside, node-targets, node-looks}
@@ -69,7 +71,8 @@ mutual
 
   within : {g : ℕ} (levels : ℕ) (e : Element) (t : List ℕ) → g ≤ 64 → Keeps g levels e → Within (items t) → Within (items (words e ++ t))
   within levels (text k w) t few (l, m) h = ((omega arith, omega arith), omega arith, omega arith, h)
-  within levels (tag a w d) t few (l, m, _, k) h = ((l, omega arith), omega arith, omega (arith, items-moreD d t), withinD (levels - 1) false d t few k h)
+  within levels (tag a w d) t few (l, m, _, k) h =
+      ((l, omega arith), omega arith, omega (arith, items-moreD d t), withinD (levels - 1) false d t few k h)
 
   withinD : {g : ℕ} (levels : ℕ) (after-text : Bool) (d : Document) (t : List ℕ) → g ≤ 64 → KeepsD g levels after-text d → Within (items t)
       → Within (items (wordsD d ++ t))
@@ -146,8 +149,10 @@ node-judged R tree states i m = go (ltb 64 (symbol-at tree i))
 
     go : (b : Bool)
         → cond b (judge-text R (symbol-at tree i - 64) (drop (i + 1) states) m)
-        (judge-element R (symbol-at tree i) (child-states (child-words (size-at tree i - 1) 0 (drop (i + 1) (items tree)) (drop (i + 1) states))) (drop (i + 1) states) m)
-        ≡ put (gist (cond b (text-targets R (symbol-at tree i - 64)) (element-targets R (symbol-at tree i) (child-states (words-inside tree states i)))))
+        (judge-element R (symbol-at tree i)
+        (child-states (child-words (size-at tree i - 1) 0 (drop (i + 1) (items tree)) (drop (i + 1) states))) (drop (i + 1) states) m)
+        ≡ put (gist (cond b (text-targets R (symbol-at tree i - 64))
+        (element-targets R (symbol-at tree i) (child-states (words-inside tree states i)))))
         (cond b (of-kind 1 R) (element-looks R (child-states (words-inside tree states i)))) (drop (i + 1) states) m
     go true = refl
     go false = rw e

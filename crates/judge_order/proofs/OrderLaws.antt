@@ -15,7 +15,8 @@ use Rattle.model.specs.Sheet.{Arc, W, mask, set-words, arc-word, order-words, A
 use Rattle.model.specs.Words.{entered, next-set, last-set, meets, fits-order, unless-empty, reads-from, reads}
 use Rattle.model.proofs.Tests.{eqb-yes, eqb-false}
 use Rattle.bits.specs.Stands.{Stands}
-use Rattle.bits.proofs.SetLaws.{zero-stands, stands-none, stands-some, words-stand, Gathers, gathers-none, gathers-more, gathers-all, stands-meet}
+use Rattle.bits.proofs.SetLaws.{zero-stands, stands-none, stands-some, words-stand, Gathers, gathers-none, gathers-more, gathers-all}
+use Rattle.bits.proofs.SetLaws.{stands-meet}
 use Rattle.judge_order.specs.Order.{states-of, OrderPart, ArcWords, Read, OrderSays}
 
 -- ---- one child
@@ -31,9 +32,11 @@ no-arc = record { within = omega arith; makes = λ l s. gathers-none _ }
 module _ {arcs : List ℕ} {set state next i : ℕ} (left : ArcsLeft arcs set state next i) where
   -- one arc more, taken apart
   module _ {leaves reads enters : ℕ} (h : i < length arcs)
-      (parts : (leaves ≡ arc-of (getD arcs i 0) .leaves) × (reads ≡ arc-of (getD arcs i 0) .reads) × (enters ≡ arc-of (getD arcs i 0) .enters)) where
+      (parts : (leaves ≡ arc-of (getD arcs i 0) .leaves) × (reads ≡ arc-of (getD arcs i 0) .reads) ×
+      (enters ≡ arc-of (getD arcs i 0) .enters)) where
     ahead : (l : List ℕ) → Stands set l
-        → Gathers next (only (eqb reads state && bit set leaves) enters ++ next-set (map arc-of (drop (i + 1) arcs)) l state) (next-set (map arc-of arcs) l state)
+        → Gathers next (only (eqb reads state && bit set leaves) enters ++ next-set (map arc-of (drop (i + 1) arcs)) l state)
+        (next-set (map arc-of arcs) l state)
     unfolding next-set flatMap entered
     ahead l s =
         let (el, er, ee) = parts in
@@ -43,7 +46,8 @@ module _ {arcs : List ℕ} {set state next i : ℕ} (left : ArcsLeft arcs set st
     unfolding only
     other-arc n er = rw er (record { within = omega arith; makes = λ l s. rw (eqb-false n) at (ahead l s) })
 
-    pub one-arc : reads ≡ state → arc-of (getD arcs i 0) .enters < 64 → {b : Bool} → b ≡ bit set leaves → {r : ℕ} → r ≡ mask 64 (λ j. bit next j || (b && eqb j enters))
+    pub one-arc : reads ≡ state → arc-of (getD arcs i 0) .enters < 64 → {b : Bool} → b ≡ bit set leaves → {r : ℕ} → r ≡ mask 64
+        (λ j. bit next j || (b && eqb j enters))
         → ArcsLeft arcs set state r (i + 1)
     one-arc e below {b} eb er = record {
       within = omega arith;
@@ -85,7 +89,8 @@ module _ {arcs words : List ℕ} {set i : ℕ} (left : ChildrenLeft arcs words s
       let none : drop i words ≡ [] = drop-of-length-le words h in
       record { last = rw (rw none at (left .last)) at (left .stands); count = omega (arith, rw none at (left .read)) }
 
-  module _ {r : ℕ} (h : i < length words) (step : (l : List ℕ) → Stands set l → Stands r (next-set (map arc-of arcs) l (getD words i 0 - 1))) where
+  module _ {r : ℕ} (h : i < length words)
+      (step : (l : List ℕ) → Stands set l → Stands r (next-set (map arc-of arcs) l (getD words i 0 - 1))) where
     -- the child's state in front
     split : states-of (drop i words) ≡ (getD words i 0 - 1) ∷ states-of (drop (i + 1) words)
     unfolding states-of
@@ -135,9 +140,11 @@ arc-back {a = a} hp hm h =
     let ee : arc-of w .enters ≡ a .enters = omega arith in
     λ i. record { leaves = el i; reads = er i; enters = ee i }
 
-arcs-back : {p m : ℕ} (arcs : List Arc) → p ≤ 64 → m ≤ 64 → ((a : Arc) → a ∈ arcs → ArcInRange p m a) → map arc-of (map arc-word arcs) ≡ arcs
+arcs-back : {p m : ℕ} (arcs : List Arc) → p ≤ 64 → m ≤ 64 → ((a : Arc) → a ∈ arcs → ArcInRange p m a) → map arc-of
+    (map arc-word arcs) ≡ arcs
 arcs-back [] hp hm h = refl
-arcs-back (a ∷ arcs) hp hm h = ap₂ {C = List Arc} _∷_ (arc-back hp hm (h a (List·Memᴰ·head refl))) (arcs-back arcs hp hm (λ b m. h b (List·Memᴰ·tail m)))
+arcs-back (a ∷ arcs) hp hm h = ap₂ {C = List Arc} _∷_ (arc-back hp hm (h a (List·Memᴰ·head refl)))
+    (arcs-back arcs hp hm (λ b m. h b (List·Memᴰ·tail m)))
 
 arcs-enter : {p m : ℕ} (arcs : List Arc) → p ≤ 64 → m ≤ 64 → ((a : Arc) → a ∈ arcs → ArcInRange p m a) → ArcWords (map arc-word arcs)
 arcs-enter [] hp hm h k l = absurd (omega arith)
@@ -161,7 +168,8 @@ module _ {part : List ℕ} (h : OrderPart part) where
 
   accepting-stands : {r : ℕ} → r ≡ getD part 1 0 + getD part 2 0 * W → Stands r (h .order .accepting)
   unfolding order-words set-words
-  accepting-stands e = words-stand (h .order .positions) (h .order .accepting) (h .in-range .few-positions) (h .in-range .accepting) (rw (h .coded) at e)
+  accepting-stands e = words-stand (h .order .positions) (h .order .accepting) (h .in-range .few-positions) (h .in-range .accepting)
+      (rw (h .coded) at e)
 
   order-read : {set n accepting : ℕ} {b : Bool} {words : List ℕ} → Read (take (length part - 4) (drop 4 part)) words set n
       → accepting ≡ getD part 1 0 + getD part 2 0 * W → b ≡ meets (members 64 set) (members 64 accepting)
@@ -170,5 +178,6 @@ module _ {part : List ℕ} (h : OrderPart part) where
   order-read r ea eb = (eb ∙ stands-meet (rw arcs-are at (r .last)) (accepting-stands ea), rw arcs-are at (r .count))
 
 pub order-says : {part words : List ℕ} {set n accepting : ℕ} {b : Bool} → Read (take (length part - 4) (drop 4 part)) words set n
-    → accepting ≡ getD part 1 0 + getD part 2 0 * W → b ≡ meets (members 64 set) (members 64 accepting) → OrderSays part (states-of words) b n
+    → accepting ≡ getD part 1 0 + getD part 2 0 * W → b ≡ meets (members 64 set) (members 64 accepting) → OrderSays part
+    (states-of words) b n
 order-says r ea eb = record { fitting = λ h. order-read h r ea eb .0; reading = λ h. order-read h r ea eb .1 }

@@ -36,9 +36,15 @@ tries-are : (w : List ℕ) (R : List Rule) → tries R w ≡ length (flatMap (lo
 unfolding tries flatMap looked
 tries-are w [] = refl
 tries-are w (x ∷ R) =
-    omega (arith, tries-are w R, length-append (replicate (looks-of w x) 0) (flatMap (looked w) R), length-replicate {A = ℕ} (looks-of w x) 0)
+    omega (
+      arith,
+      tries-are w R,
+      length-append (replicate (looks-of w x) 0) (flatMap (looked w) R),
+      length-replicate {A = ℕ} (looks-of w x) 0,
+    )
 
-tries-next : (w : List ℕ) (x : Rule) (R S : List Rule) → flatMap (looked w) R ≡ looked w x ++ flatMap (looked w) S → tries R w ≡ looks-of w x + tries S w
+tries-next : (w : List ℕ) (x : Rule) (R S : List Rule) → flatMap (looked w) R ≡ looked w x ++ flatMap
+    (looked w) S → tries R w ≡ looks-of w x + tries S w
 unfolding looked
 tries-next w x R S e =
     let rest = length-append (replicate (looks-of w x) 0) (flatMap (looked w) S) in
@@ -60,15 +66,19 @@ looks-apart w (three o c q) d = absurd (d refl)
 -- ---- the rule in hand
 
 -- a rule whose key is that of content
-content-rule : {p a e : ℕ} {s : List ℕ} (x : Rule) → p ≤ 64 → length s ≤ 16384 → RuleAt p s a x → key x ≡ 0 → e ≡ a + length (rule-words p x)
+content-rule : {p a e : ℕ} {s : List ℕ} (x : Rule) → p ≤ 64 → length s ≤ 16384 → RuleAt p s a x → key x ≡ 0 → e ≡ a + length
+    (rule-words p x)
     → (1 ≤ e) × (c : ContentAt s a (e - 1)) × (x ≡ content (c .fields))
 unfolding key
 content-rule (one k q) few short h z ends = absurd (omega (arith, h .ranges))
 content-rule (two b c q) few short h z ends = absurd (omega arith)
 content-rule {p} (three o c q) few short h z ends =
     let some = ap length (content-words p o c q) in
-    let fields : Content = record { order = o; count = c; target = q } in
-    (omega (arith, some), record { states = p; fields = fields; few-states = few; few-words = short; here = h; ends = omega (arith, some) }, refl)
+    let fields : Content = record { order = o; count = c; target = q } in (
+      omega (arith, some),
+      record { states = p; fields = fields; few-states = few; few-words = short; here = h; ends = omega (arith, some) },
+      refl,
+    )
 
 -- ---- the loop over the kind-three rules
 
@@ -78,7 +88,8 @@ pub record Trying (R : List Rule) (w : List ℕ) (i targets looks : ℕ) : Type 
   pub taking : looks + tries (drop i R) w ≡ tries R w
   pub few : (looks ≤ i * 2 ^ 32) × (looks ≤ 2 ^ 42)
 
-pub looks-fit : {R : List Rule} {s w : List ℕ} {at target i targets looks reads : ℕ} {fits : Bool} → Trying R w i targets looks → Tries s at target w fits reads
+pub looks-fit : {R : List Rule} {s w : List ℕ} {at target i targets looks reads : ℕ} {fits : Bool} → Trying R w i targets looks → Tries s
+    at target w fits reads
     → Fits w64 (looks + (1 + reads))
 looks-fit g t = record { fits = omega (arith, t .few, g .few .1) }
 
@@ -93,14 +104,16 @@ module _ {s index : List ℕ} {rules : ℕ} (h : Indexed s index) (n : rules ≡
       }
 
   -- the occurrences are counted, if the i-th rule has a count part
-  pub next-counted : {i word begin : ℕ} {counts : List ℕ} → Counted (rules-in s) counts w → i < rules → word ≡ getD index (67 + i) 0 → begin ≡ word % 2 ^ 16
+  pub next-counted : {i word begin : ℕ} {counts : List ℕ} → Counted (rules-in s) counts w → i < rules → word ≡ getD index
+      (67 + i) 0 → begin ≡ word % 2 ^ 16
       → CountedAt s begin counts w
   next-counted {i} o l ew eb =
       let inside : i < length (rules-in s) = omega arith in
       let says = kinds (nth (rules-in s) i) (rule-begins h inside ew eb) .count in
       record { known = λ e. o .known (count-some (rules-in s) i inside (sym says ∙ e)) }
 
-  module _ {i targets looks word begin after end : ℕ} (g : Trying (rules-in s) w i targets looks) (l : i < rules) (ew : word ≡ getD index (67 + i) 0)
+  module _ {i targets looks word begin after end : ℕ} (g : Trying (rules-in s) w i targets looks) (l : i < rules)
+      (ew : word ≡ getD index (67 + i) 0)
       (eb : begin ≡ word % 2 ^ 16) (ea : after ≡ getD index (67 + (i + 1)) 0) (ee : end ≡ after % 2 ^ 16) where
     inside : i < length (rules-in s)
     inside = omega arith
@@ -127,7 +140,12 @@ module _ {s index : List ℕ} {rules : ℕ} (h : Indexed s index) (n : rules ≡
         record {
           chain = chain-added h (at-content w) (contents-apart w) (g .chain) inside ew en fits (ap (at-content w) is ∙ t .gives c)
               (omega (arith, target-word c, c .here .ranges .2, c .few-states)) m;
-          taking = omega (arith, g .taking, tries-next w (nth (rules-in s) i) (drop i (rules-in s)) (drop next (rules-in s)) rest, ap (looks-of w) is ∙ t .takes c);
+          taking = omega (
+            arith,
+            g .taking,
+            tries-next w (nth (rules-in s) i) (drop i (rules-in s)) (drop next (rules-in s)) rest,
+            ap (looks-of w) is ∙ t .takes c,
+          );
           few = (omega (arith, g .few .0, t .few), omega (arith, g .few .0, t .few));
         }
 
@@ -135,22 +153,30 @@ module _ {s index : List ℕ} {rules : ℕ} (h : Indexed s index) (n : rules ≡
   unfolding tries
   trying-ended {i = i} g l =
       let end : length (rules-in s) ≤ i = omega arith in
-      record { reached = chain-ended h (g .chain) end; number = omega (arith, rw (drop-of-length-le (rules-in s) end) at (g .taking)); few = g .few .1 }
+      record {
+        reached = chain-ended h
+            (g .chain) end;
+        number = omega (arith, rw (drop-of-length-le (rules-in s) end) at (g .taking));
+        few = g .few .1;
+      }
 
 -- the occurrences are counted, or no rule has a count part
-pub counted-if : {s : List ℕ} {r : Rules} {counts w : List ℕ} → RulesOf s r → (0 < r .counted → Occurs counts w) → Counted (rules-in s) counts w
+pub counted-if : {s : List ℕ} {r : Rules} {counts w : List ℕ} → RulesOf s r → (0 < r .counted → Occurs counts w) → Counted
+    (rules-in s) counts w
 counted-if {r = r} k o = record { known = λ l. o (omega (arith, k .counts)) }
 
 -- ---- no child, and several
 
 -- the rules are tried
-tried : (R : List Rule) (w : List ℕ) → length w ≢ 1 → (content-targets R w ≡ flatMap (at-content w) R) × (unless-one w (tries R w) ≡ tries R w)
+tried : (R : List Rule) (w : List ℕ) → length w ≢ 1 → (content-targets R w ≡ flatMap (at-content w) R) ×
+    (unless-one w (tries R w) ≡ tries R w)
 unfolding content-targets
 tried R [] n = (refl, refl)
 tried R (q ∷ []) n = absurd (n refl)
 tried R (q ∷ r ∷ w) n = (refl, refl)
 
-pub several-found : (R : List Rule) (words : List ℕ) → length words ≢ 1 → {f : Found} → FindsTargets R (states-of words) f → FindsContent R (states-of words) f
+pub several-found : (R : List Rule) (words : List ℕ) → length words ≢ 1 → {f : Found} → FindsTargets R (states-of words) f → FindsContent R
+    (states-of words) f
 several-found R words n f = let (a, b) = tried R (states-of words) (λ e. n (length-states words ∙ e)) in rw (a, b) f
 
 pub no-words : StateWords [] × (length {A = ℕ} [] ≢ 1)

@@ -72,8 +72,10 @@ module _ {s index : List ℕ} (h : Indexed s index) where
     counts-fit l m = record { fits = omega (arith, g .few, g .all) }
 
     -- the rule in hand, before the others
-    pub numbering-more : i < number → {word begin map one two three : ℕ} {b : Bool} → word ≡ getD index (67 + i) 0 → begin ≡ word % 2 ^ 16 → map ≡ getD s begin 0
-        → (one ≡ cond (eqb map 33) 1 0) × (one ≤ 1) → (two ≡ cond (eqb map 38) 1 0) × (two ≤ 1) → b ≡ counted map → (three ≡ cond b 1 0) × (three ≤ 1)
+    pub numbering-more : i < number → {word begin map one two three : ℕ} {b : Bool} → word ≡ getD index
+        (67 + i) 0 → begin ≡ word % 2 ^ 16 → map ≡ getD s begin 0
+        → (one ≡ cond (eqb map 33) 1 0) × (one ≤ 1) → (two ≡ cond (eqb map 38) 1 0) × (two ≤ 1) → b ≡ counted map → (three ≡ cond b 1 0) ×
+        (three ≤ 1)
         → Numbering (rules-in s) number (ones + one) (twos + two) (counts + three) (i + 1)
     unfolding of-kind of-count
     numbering-more l {map = map} ew eb em (e₁, f₁) (e₂, f₂) ec (e₃, f₃) =
@@ -95,7 +97,8 @@ module _ {s index : List ℕ} (h : Indexed s index) where
           );
         }
 
-  pub numbering-all : {r : Rules} {i : ℕ} → Numbering (rules-in s) (r .number) (r .ones) (r .twos) (r .counted) i → r .number ≤ i → RulesOf s r
+  pub numbering-all : {r : Rules} {i : ℕ} → Numbering (rules-in s) (r .number) (r .ones) (r .twos)
+      (r .counted) i → r .number ≤ i → RulesOf s r
   unfolding of-kind of-count
   numbering-all {i = i} g l =
       let none = drop-of-length-le (rules-in s) {i = i} (omega (arith, g .all)) in

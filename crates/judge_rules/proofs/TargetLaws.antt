@@ -64,13 +64,16 @@ module _ {s index : List ℕ} (h : Indexed s index) where
         record { adding = rw (← all) (gathers-none (flatMap f (rules-in s))); keyed = there }
 
     -- the i-th rule gives its target q where a test holds
-    pub chain-added : {i set word next q r : ℕ} → OnChain f k (rules-in s) i set → i < length (rules-in s) → word ≡ getD index (67 + i) 0 → next ≡ word / 2 ^ 16
-        → (flag : Bool) → f (nth (rules-in s) i) ≡ only flag q → q < 64 → r ≡ mask 64 (λ j. bit set j || (flag && eqb j q)) → OnChain f k (rules-in s) next r
+    pub chain-added : {i set word next q r : ℕ} → OnChain f k (rules-in s) i set → i < length (rules-in s) → word ≡ getD index
+        (67 + i) 0 → next ≡ word / 2 ^ 16
+        → (flag : Bool) → f (nth (rules-in s) i) ≡ only flag q → q < 64 → r ≡ mask 64 (λ j. bit set j || (flag && eqb j q)) → OnChain f k
+        (rules-in s) next r
     chain-added {q = q} g l ew en flag e small m =
         let (more, there) = chain-next h f apart l (g .keyed l) (en ∙ ap (λ (w : ℕ). w / 2 ^ 16) ew) in
         record { adding = gathers-more flag q small m (rw (more, e) at (g .adding)); keyed = there }
 
-  pub chain-ended : {f : Rule → List ℕ} {k i set : ℕ} → OnChain f k (rules-in s) i set → length (rules-in s) ≤ i → Stands set (flatMap f (rules-in s))
+  pub chain-ended : {f : Rule → List ℕ} {k i set : ℕ} → OnChain f k (rules-in s) i set → length (rules-in s) ≤ i → Stands set
+      (flatMap f (rules-in s))
   unfolding flatMap
   chain-ended g l = gathers-all (rw (drop-of-length-le (rules-in s) l) at (g .adding))
 
@@ -112,7 +115,8 @@ module _ {s index : List ℕ} {rules kind : ℕ} (h : Indexed s index) (n : rule
   pub texts-begun : {k word i : ℕ} → k ≡ kind → word ≡ getD index k 0 → i ≡ word → OnChain (at-text kind) kind (rules-in s) i 0
   texts-begun ek ew ei = chain-begun h (at-text kind) (texts-apart kind) (omega arith) (rw (← ek) (ei ∙ ew))
 
-  module _ {i set word begin : ℕ} (g : OnChain (at-text kind) kind (rules-in s) i set) (l : i < rules) (ew : word ≡ getD index (67 + i) 0) (eb : begin ≡ word % 2 ^ 16) where
+  module _ {i set word begin : ℕ} (g : OnChain (at-text kind) kind (rules-in s) i set) (l : i < rules) (ew : word ≡ getD index (67 + i) 0)
+      (eb : begin ≡ word % 2 ^ 16) where
     inside : i < length (rules-in s)
     inside = omega arith
 
@@ -155,7 +159,12 @@ tag-rule {t = t} (two b c q) few h e l =
     let inner = word-is (h .there) 2 (omega arith) in
     let target = word-is (h .there) 3 (omega arith) in
     let same : b ≡ t = omega arith in
-    record { gives = λ l. rw (inner, target, eqb-yes same); room = word-within (h .there) 3 (omega arith); small = omega (arith, h .ranges) }
+    record {
+      gives = λ l. rw (inner, target, eqb-yes same);
+      room = word-within (h .there) 3
+          (omega arith);
+      small = omega (arith, h .ranges);
+    }
 tag-rule (three o c q) few h e l = absurd (omega arith)
 
 -- what is so for each list of the states of the set `inner`
@@ -166,14 +175,16 @@ pub record OnTag (R : List Rule) (tag inner i set : ℕ) : Type 0 where
 pub tag-head : {s index : List ℕ} {tag k : ℕ} → Indexed s index → (1 ≤ tag) × (tag ≤ 64) → k ≡ tag → 2 + k < length index
 tag-head h few e = omega (arith, head-room h)
 
-module _ {s index : List ℕ} {rules tag inner : ℕ} (h : Indexed s index) (n : rules ≡ length (rules-in s)) (few : (1 ≤ tag) × (tag ≤ 64)) where
+module _ {s index : List ℕ} {rules tag inner : ℕ} (h : Indexed s index) (n : rules ≡ length (rules-in s))
+    (few : (1 ≤ tag) × (tag ≤ 64)) where
   pub tags-begun : {k word i : ℕ} → k ≡ tag → word ≡ getD index (2 + k) 0 → i ≡ word → OnTag (rules-in s) tag inner i 0
   tags-begun {i = i} ek ew ei =
       let begun : (l : List ℕ) → OnChain (at-tag tag l) (2 + tag) (rules-in s) i 0 =
       λ l. chain-begun h (at-tag tag l) (tags-apart tag l) (omega arith) (rw (← ek) (ei ∙ ew)) in
       record { adding = λ l stands. begun l; keyed = begun [] .keyed }
 
-  module _ {i set word begin : ℕ} (g : OnTag (rules-in s) tag inner i set) (l : i < rules) (ew : word ≡ getD index (67 + i) 0) (eb : begin ≡ word % 2 ^ 16) where
+  module _ {i set word begin : ℕ} (g : OnTag (rules-in s) tag inner i set) (l : i < rules) (ew : word ≡ getD index (67 + i) 0)
+      (eb : begin ≡ word % 2 ^ 16) where
     within : i < length (rules-in s)
     within = omega arith
 
@@ -183,11 +194,13 @@ module _ {s index : List ℕ} {rules tag inner : ℕ} (h : Indexed s index) (n :
     pub tag-room : begin + 3 < length s
     tag-room = tag-here .room
 
-    pub tag-added : {next r : ℕ} → next ≡ word / 2 ^ 16 → r ≡ mask 64 (λ j. bit set j || (bit inner (getD s (begin + 2) 0) && eqb j (getD s (begin + 3) 0)))
+    pub tag-added : {next r : ℕ} → next ≡ word / 2 ^ 16 → r ≡ mask 64
+        (λ j. bit set j || (bit inner (getD s (begin + 2) 0) && eqb j (getD s (begin + 3) 0)))
         → OnTag (rules-in s) tag inner next r
     tag-added en m = record {
       adding = λ l stands.
-          chain-added h (at-tag tag l) (tags-apart tag l) (g .adding l stands) within ew en (has l (getD s (begin + 2) 0)) (tag-here .gives l) (tag-here .small)
+          chain-added h (at-tag tag l) (tags-apart tag l) (g .adding l stands) within ew en (has l (getD s (begin + 2) 0))
+          (tag-here .gives l) (tag-here .small)
           (rw (stands .same (getD s (begin + 2) 0)) at m);
       keyed = chain-next h (at-tag tag []) (tags-apart tag []) within (g .keyed within) (en ∙ ap (λ (w : ℕ). w / 2 ^ 16) ew) .1;
     }

@@ -87,9 +87,19 @@ module _ {s : List ℕ} {at target : ℕ} (c : ContentAt s at target) where
       order-there : (p : OrderPart (part s (at + 1) (at + 1 + n))) × (c .fields .order ≡ some (p .order))
       order-there =
           let (x, e, h) = has-order (c .here) er (not-false r t) in
-          let long : length (order-part (c .fields .order)) ≡ length (order-part (some x)) = ap (λ (o : Option Order). length (order-part o)) e in
-          let end : at + 1 + n ≡ h .end = omega (arith, order-long, h .there .ends) in
-          (record { states = c .states; order = x; few-states = c .few-states; in-range = h .ranges; coded = rw end (words-part (h .there)) }, e)
+          let long : length (order-part (c .fields .order)) ≡ length
+          (order-part (some x)) = ap (λ (o : Option Order). length (order-part o)) e in
+          let end : at + 1 + n ≡ h .end = omega (arith, order-long, h .there .ends) in (
+            record {
+              states = c .states;
+              order = x;
+              few-states = c .few-states;
+              in-range = h .ranges;
+              coded = rw end
+                  (words-part (h .there));
+            },
+            e,
+          )
 
       pub order-lent : OrderPart (part s (at + 1) (at + 1 + n))
       order-lent = order-there .0
@@ -105,22 +115,34 @@ module _ {s : List ℕ} {at target : ℕ} (c : ContentAt s at target) where
         let (ss, e, h) = has-count (c .here) em eb t in
         let long : length (count-part (c .states) (c .fields .count)) ≡ length (count-part (c .states) (some ss))
         = ap (λ (o : Option (List Step)). length (count-part (c .states) o)) e in
-        let end : target ≡ h .end = omega (arith, counts-end, h .there .ends) in
-        (record { states = c .states; steps = ss; few-states = c .few-states; in-range = h .ranges; coded = rw end (words-part (h .there)) }, e)
+        let end : target ≡ h .end = omega (arith, counts-end, h .there .ends) in (
+          record {
+            states = c .states;
+            steps = ss;
+            few-states = c .few-states;
+            in-range = h .ranges;
+            coded = rw end
+                (words-part (h .there));
+          },
+          e,
+        )
 
     count-lent : {counts w : List ℕ} → CountedAt s at counts w → CountIf (part s m target) b counts
     count-lent {w = w} o = record { lent = λ t. (count-there t .0, (w, o .known (sym eb ∙ t))) }
 
-    count-told : {counts w : List ℕ} {holds : Bool} → CountedAt s at counts w → CountHolds (part s m target) b counts holds → holds ≡ fits-count (c .fields .count) w
+    count-told : {counts w : List ℕ} {holds : Bool} → CountedAt s at counts w → CountHolds
+        (part s m target) b counts holds → holds ≡ fits-count (c .fields .count) w
     unfolding fits-count
     count-told {w = w} {holds} o h = go b refl
       where
         go : (x : Bool) → b ≡ x → holds ≡ fits-count (c .fields .count) w
-        go true e = let (p, is) = count-there e in h .by-part e .fitting p w (o .known (sym eb ∙ e)) ∙ ap (λ (o : Option (List Step)). fits-count o w) (sym is)
+        go true e = let (p, is) = count-there e in h .by-part e .fitting p w
+            (o .known (sym eb ∙ e)) ∙ ap (λ (o : Option (List Step)). fits-count o w) (sym is)
         go false e = h .by-none e ∙ ap (λ (o : Option (List Step)). fits-count o w) (sym (no-count (c .here) eb e))
 
   -- after the map, or after the order part
-  module _ {counts w : List ℕ} (o : CountedAt s at counts w) {r b : Bool} (er : r ≡ ordered (getD s at 0)) (eb : b ≡ counted (getD s at 0)) where
+  module _ {counts w : List ℕ} (o : CountedAt s at counts w) {r b : Bool} (er : r ≡ ordered (getD s at 0))
+      (eb : b ≡ counted (getD s at 0)) where
     pub first-lent : not r ≡ true → CountIf (part s (at + 1) target) b counts
     first-lent t = count-lent eb (order-none er t .1) o
 
@@ -132,7 +154,8 @@ module _ {s : List ℕ} {at target : ℕ} (c : ContentAt s at target) where
 module _ {s : List ℕ} {at target : ℕ} where
   -- by whether both parts fit, and how many children the order part reads
   tried : {w : List ℕ} {fits : Bool} {n : ℕ} → ContentAt s at target → n < 2 ^ 32
-      → ((c : ContentAt s at target) → (fits ≡ (fits-order (c .fields .order) w && fits-count (c .fields .count) w)) × (n ≡ reads (c .fields .order) w))
+      → ((c : ContentAt s at target) → (fits ≡ (fits-order (c .fields .order) w && fits-count (c .fields .count) w)) ×
+      (n ≡ reads (c .fields .order) w))
       → Tries s at target w fits n
   unfolding at-content looks-of
   tried here few both = record {
@@ -142,10 +165,12 @@ module _ {s : List ℕ} {at target : ℕ} where
     there = target-room here;
   }
 
-  module _ {counts words : List ℕ} (here : ContentAt s at target) (o : CountedAt s at counts (states-of words)) (ok : StateWords words) {r b : Bool} (er : r ≡ ordered (getD s at 0))
+  module _ {counts words : List ℕ} (here : ContentAt s at target) (o : CountedAt s at counts (states-of words))
+      (ok : StateWords words) {r b : Bool} (er : r ≡ ordered (getD s at 0))
       (eb : b ≡ counted (getD s at 0)) where
     -- without an order part, all children are read
-    pub unordered-tries : not r ≡ true → {holds : Bool} → CountHolds (part s (at + 1) target) b counts holds → Tries s at target (states-of words) holds (length words)
+    pub unordered-tries : not r ≡ true → {holds : Bool} → CountHolds (part s (at + 1) target) b counts holds → Tries s at target
+        (states-of words) holds (length words)
     unfolding fits-order reads
     unordered-tries t h = tried here (omega (arith, ok .few)) (λ c.
         let (e, m) = order-none c er t in
@@ -155,7 +180,8 @@ module _ {s : List ℕ} {at target : ℕ} where
     module _ (t : not r ≡ false) {n : ℕ} (en : n ≡ order-length s (at + 1)) {fits : Bool} {m reads : ℕ}
         (says : OrderSays (part s (at + 1) (at + 1 + n)) (states-of words) fits m) (small : m < 2 ^ 32) (same : reads ≡ m) where
       reading : (c : ContentAt s at target) → reads ≡ Words.reads (c .fields .order) (states-of words)
-      reading c = let (p, e) = order-there c er t en in same ∙ says .reading p ∙ ap (λ (x : Option Order). Words.reads x (states-of words)) (sym e)
+      reading c = let (p, e) = order-there c er t en in same ∙ says .reading p ∙ ap (λ (x : Option Order). Words.reads x (states-of words))
+          (sym e)
 
       fitting : (c : ContentAt s at target) → fits ≡ fits-order (c .fields .order) (states-of words)
       fitting c = let (p, e) = order-there c er t en in says .fitting p ∙ ap (λ (x : Option Order). fits-order x (states-of words)) (sym e)
@@ -163,7 +189,8 @@ module _ {s : List ℕ} {at target : ℕ} where
       pub unfit-tries : not fits ≡ true → Tries s at target (states-of words) false reads
       unfit-tries e = tried here (omega arith) (λ c. (rw (sym (fitting c) ∙ not-true fits e), reading c))
 
-      pub ordered-tries : not fits ≡ false → {holds : Bool} → CountHolds (part s (at + 1 + n) target) b counts holds → Tries s at target (states-of words) holds reads
+      pub ordered-tries : not fits ≡ false → {holds : Bool} → CountHolds (part s (at + 1 + n) target) b counts holds → Tries s at target
+          (states-of words) holds reads
       ordered-tries e h = tried here (omega arith) (λ c.
           let holding = count-told c eb (order-long c er t en) o h in
           (rw (sym (fitting c) ∙ not-false fits e) holding, reading c))

@@ -55,7 +55,8 @@ form-some f = rw (f .nodes) at (go (f .form))
 -- ---- the outcome of the run, by its case
 
 module _ {x : Outcome} (s tree old left : List ℕ) (ends : Ends s tree old x left) where
-  pub all-said : {m : ℕ} → x ≡ All m → {v : Said} → v ≡ root-verdict (sheet-in s .final) left m → (v ≡ verdict-on s tree) × (left ≡ states-on s tree old)
+  pub all-said : {m : ℕ} → x ≡ All m → {v : Said} → v ≡ root-verdict (sheet-in s .final) left m → (v ≡ verdict-on s tree) ×
+      (left ≡ states-on s tree old)
   unfolding verdict first-states
   all-said e ev = rw (subst (λ y. Ends s tree old y left) e ends) (ev, refl)
 

@@ -66,7 +66,8 @@ module _ {targets rest : ℕ} (others : members 64 rest ≡ drop 1 (members 64 t
 -- ---- the loop
 
 -- a word other than 65 is put before those of the later nodes; 65 says that two states are reached
-pub put-word : (g : Reached) {w : ℕ} → Word g w → w ≢ 65 → (looks : ℕ) (st : List ℕ) (m : ℕ) → (put g looks st m ≡ ran (w ∷ st) (looks + m)) × (w ≤ 64)
+pub put-word : (g : Reached) {w : ℕ} → Word g w → w ≢ 65 → (looks : ℕ) (st : List ℕ) (m : ℕ) →
+    (put g looks st m ≡ ran (w ∷ st) (looks + m)) × (w ≤ 64)
 put-word nothing e n looks st m = (rw e, omega arith)
 put-word (just q) (e, small) n looks st m = (rw e, small)
 put-word several e n looks st m = absurd (n e)
@@ -91,7 +92,8 @@ pub record Running (R : List Rule) (tree : List ℕ) (n i : ℕ) (states : List 
   pub so-far : run R (drop i (items tree)) ≡ ran (drop i states) looks
   pub few : looks ≤ (n - i) * 2 ^ 43
 
-pub running-none : (R : List Rule) {tree : List ℕ} (states : List ℕ) → Shaped tree (length states) → Running R tree (length states) (length states) states 0
+pub running-none : (R : List Rule) {tree : List ℕ} (states : List ℕ) → Shaped tree (length states) → Running R tree (length states)
+    (length states) states 0
 unfolding run
 running-none R {tree} states t =
     let e = length-items (length states) tree (t .long) in
@@ -103,19 +105,23 @@ running-none R {tree} states t =
       few = omega arith;
     }
 
-pub running-all : {R : List Rule} {tree : List ℕ} {n i : ℕ} {states : List ℕ} {looks : ℕ} → Running R tree n i states looks → i ≤ 0 → run R (items tree) ≡ ran states looks
+pub running-all : {R : List Rule} {tree : List ℕ} {n i : ℕ} {states : List ℕ} {looks : ℕ} → Running R tree n i states looks → i ≤ 0 → run R
+    (items tree) ≡ ran states looks
 running-all {i = i} g h = let z : i ≡ 0 = omega arith in rw z at (g .so-far)
 
-module _ {R : List Rule} {tree : List ℕ} {n i : ℕ} {states : List ℕ} {looks : ℕ} (t : Shaped tree n) (g : Running R tree n i states looks) (more : 0 < i) where
+module _ {R : List Rule} {tree : List ℕ} {n i : ℕ} {states : List ℕ} {looks : ℕ} (t : Shaped tree n) (g : Running R tree n i states looks)
+    (more : 0 < i) where
   -- node i − 1 is judged before those
-  judged : run R (drop (i - 1) (items tree)) ≡ put (gist (node-targets R tree states (i - 1))) (node-looks R tree states (i - 1)) (drop i states) looks
+  judged : run R (drop (i - 1) (items tree)) ≡ put (gist (node-targets R tree states (i - 1))) (node-looks R tree states (i - 1))
+      (drop i states) looks
   unfolding run
   judged =
       let e : i - 1 + 1 ≡ i = omega arith in
       rw (items-at tree (i - 1) (omega (arith, t .long, g .within)), e, g .so-far) (rw e at (node-judged R tree states (i - 1) looks))
 
   -- what its judging asks
-  pub running-judging : {s index words : List ℕ} {rules : Rules} {nothing : Found} → Indexed s index → RulesOf s rules → FindsContent (rules-in s) [] nothing
+  pub running-judging : {s index words : List ℕ} {rules : Rules} {nothing : Found} → Indexed s index → RulesOf s rules → FindsContent
+      (rules-in s) [] nothing
       → n ≤ length words → Judging s index (record { node = i - 1; rules = rules; nothing = nothing }) tree states words
   running-judging h k f room =
       let e : i - 1 + 1 ≡ i = omega arith in
@@ -140,14 +146,16 @@ module _ {R : List Rule} {tree : List ℕ} {n i : ℕ} {states : List ℕ} {look
     running-two e =
         let z : i - 1 + 0 ≡ i - 1 = omega arith in
         let within : i - 1 ≤ length (items tree) = omega (arith, length-items n tree (t .long), g .within) in
-        rw z at (two-decides R (i - 1) 0 (items tree) within (judged ∙ put-two (gist (node-targets R tree states (i - 1))) its-word e _ _ _))
+        rw z at (two-decides R (i - 1) 0 (items tree) within
+        (judged ∙ put-two (gist (node-targets R tree states (i - 1))) its-word e _ _ _))
 
     pub looks-fit : Fits w64 (looks + found .looks)
     looks-fit = record { fits = omega (arith, g .few, f .few, t .few, g .within) }
 
     pub running-more : w ≢ 65 → {left : List ℕ} → left ≡ set states (i - 1) w → Running R tree n (i - 1) left (looks + found .looks)
     running-more d el =
-        let (e, small) = put-word (gist (node-targets R tree states (i - 1))) its-word d (node-looks R tree states (i - 1)) (drop i states) looks in
+        let (e, small) = put-word (gist (node-targets R tree states (i - 1))) its-word d (node-looks R tree states (i - 1))
+        (drop i states) looks in
         let next : suc (i - 1) ≡ i = omega arith in
         let total : node-looks R tree states (i - 1) + looks ≡ looks + found .looks = omega (arith, f .number) in
         let back : drop (i - 1) (set states (i - 1) w) ≡ w ∷ drop i states =
@@ -224,7 +232,8 @@ module _ {st : List ℕ} {i : ℕ} (g : Seeking st i) where
             omega arith,
             record {
               within = omega (arith, g .within);
-              none = rw (f, drop-cons st i 0 (g .within), eqb-false {m = 0} {n = getD st i 0} (λ k. d (sym k))) (rw (add-one i) at (g .none));
+              none = rw (f, drop-cons st i 0 (g .within), eqb-false {m = 0} {n = getD st i 0} (λ k. d (sym k)))
+                  (rw (add-one i) at (g .none));
             },
           )
 

@@ -31,7 +31,8 @@ same-digits (suc k) zero n high low h = absurd (omega arith)
 same-digits (suc k) (suc steps) zero high low h = absurd (omega (arith, low k refl, below-power k))
 same-digits (suc k) (suc steps) (suc n) high low h =
     let below : suc n / 10 < 10 ^ k = omega (arith, pow-suc 10 k) in
-    let rest = same-digits k steps (suc n / 10) below (λ j e. let all = low k refl in omega (arith, pow-suc 10 j, ap (λ i. 10 ^ i) e)) (omega arith) in
+    let rest = same-digits k steps (suc n / 10) below (λ j e. let all = low k refl in omega (arith, pow-suc 10 j, ap (λ i. 10 ^ i) e))
+    (omega arith) in
     rw rest (ap (λ d. io.digits 10 k (suc n / 10) ++ (d ∷ [])) (digit-glyph (suc n)))
 
 -- the lowest number of k + 1 digits, but for 0
@@ -43,7 +44,8 @@ pub decimal-is : (n k : ℕ) → Fewest 10 1 n k → decimal n ≡ io.digits 10 
 unfolding decimal bytes
 decimal-is n zero (least, high, low) = absurd (omega arith)
 decimal-is zero (suc zero) h = refl
-decimal-is zero (suc (suc k)) (least, high, low) = let one : suc (suc k) - 1 ≡ suc k = omega arith in absurd (omega (arith, rw one at (low (omega arith)), below-power (suc k)))
+decimal-is zero (suc (suc k)) (least, high, low) = let one : suc
+    (suc k) - 1 ≡ suc k = omega arith in absurd (omega (arith, rw one at (low (omega arith)), below-power (suc k)))
 decimal-is (suc n) (suc k) (least, high, low) =
     let all = lowest k (suc n) (omega arith) low in
     same-digits (suc k) (suc n) (suc n) high (λ j e. rw (← suc-inj e) all) (omega (arith, below-power k))
@@ -60,7 +62,8 @@ few-digits n k h (least, high, low) = go (told (leb k 20))
         absurd (omega (arith, low (omega arith)))
 
 -- One space and a number's digits are a field, of at most 21 bytes.
-pub put-digits : {l m after : List ℕ} {at o r k : ℕ} {text : List ℕ} (n : ℕ) → k ≤ 20 → length text ≡ k → Fewest 10 1 n k → text ≡ io.digits 10 k n
+pub put-digits : {l m after : List ℕ} {at o r k : ℕ} {text : List ℕ}
+    (n : ℕ) → k ≤ 20 → length text ≡ k → Fewest 10 1 n k → text ≡ io.digits 10 k n
     → Put l at (bytes " ") o m → Put m o text r after → Put l at (field n) r after × (r ≤ at + 21)
 unfolding field bytes
 put-digits {k = k} n few count fewest spelt space h =

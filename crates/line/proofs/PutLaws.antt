@@ -26,7 +26,8 @@ put-copied l run at k {ys} {n} room part count e =
     sym (drop-append-le (length run) mid post (omega arith)) ∙ ap (drop (length run)) (take-append-drop k (drop at l))
     ∙ drop-drop (length run) at l ∙ rw count refl in
     let all : take at l ++ (ys ++ post) ≡ (take at l ++ run) ++ (drop (length run) mid ++ post) =
-    rw (e, take-length run) (ap (λ r. take at l ++ r) (append-assoc run (drop (length run) mid) post) ∙ sym (append-assoc (take at l) run (drop (length run) mid ++ post))) in
+    rw (e, take-length run) (ap (λ r. take at l ++ r)
+    (append-assoc run (drop (length run) mid) post) ∙ sym (append-assoc (take at l) run (drop (length run) mid ++ post))) in
     record {
       next-is = omega arith;
       front = rw all (take-at (take at l ++ run) _ (at + n) before);
@@ -54,7 +55,8 @@ put-front {l} {m} {xs} {o} h =
     (count, (sym (take-append-drop o m) ∙ rw (h .front, h .rest), (omega (arith, parts, length-append (take o m) (drop o m)), omega arith)))
 
 -- the line of a refusal, by its numbers
-pub put-refusal : (x : Refusal) {l m : List ℕ} {o : ℕ} {r : Numbers} → Tells r (said-refusal x) → Put l 0 (pair-line (bytes "error") (r .first) (r .second)) o m
+pub put-refusal : (x : Refusal) {l m : List ℕ} {o : ℕ} {r : Numbers} → Tells r (said-refusal x) → Put l 0
+    (pair-line (bytes "error") (r .first) (r .second)) o m
     → Put l 0 (line-of (said-refusal x)) o m
 unfolding line-of
 put-refusal x {r = r} tells h =

@@ -28,7 +28,8 @@ module _ {map r : ℕ} (second : ℕ) where
   key-content e f g = (rw (tests.ne-eqb map 33 e, tests.ne-eqb map 38 f) g, omega arith)
 
 module _ (s : List ℕ) (a : ℕ) {kind r : ℕ} (e : kind ≡ getD s a 0) where
-  pub step-sum : {low high set n : ℕ} → kind ≤ 2 → low ≡ getD s (a + 1) 0 → high ≡ getD s (a + 2) 0 → set ≡ low + high * W → n ≡ length (members 64 set)
+  pub step-sum : {low high set n : ℕ} → kind ≤ 2 → low ≡ getD s (a + 1) 0 → high ≡ getD s (a + 2) 0 → set ≡ low + high * W → n ≡ length
+      (members 64 set)
       → r ≡ 3 + n + kind → r ≡ step-length s a
   unfolding step-length sum-length
   step-sum {n = n} h el eh f g i =
@@ -58,7 +59,8 @@ key-of-rule (two g c q) h =
     rw (map, second) (omega (arith, h .ranges .1))
 key-of-rule {a = a} {s = s} (three o c q) h = rw (content-map h) (go (getD s (a + 1) 0) (there-is o) (there-is c))
   where
-    go : (second : ℕ) (ordered counted : Bool) → cond (eqb (map-of ordered counted) 33) (min second 2) (cond (eqb (map-of ordered counted) 38) (2 + min second 64) 0) ≡ 0
+    go : (second : ℕ) (ordered counted : Bool) → cond (eqb (map-of ordered counted) 33) (min second 2)
+        (cond (eqb (map-of ordered counted) 38) (2 + min second 64) 0) ≡ 0
     go second true true = refl
     go second true false = refl
     go second false true = refl

@@ -13,9 +13,12 @@ use lib.Seq.{drop-drop}
 use Rattle.model.specs.Lists.{has, every, numbers}
 use Rattle.model.specs.Answers.{Checked, refuses}
 use Rattle.model.specs.Tree.{Document}
-use Rattle.model.specs.Bytes.{Class, white, letter, digit, hyphen, less, greater, slash, other, forbidden, class-number, is, class-of, letter-byte}
+use Rattle.model.specs.Bytes.{Class, white, letter, digit, hyphen, less, greater, slash, other, forbidden, class-number, is, class-of}
+use Rattle.model.specs.Bytes.{letter-byte}
 use Rattle.model.specs.Names.{tag-of}
-use Rattle.model.specs.Text.{Place, after, root-open, tag-open, Move, to, opens, begins, names, closes, stops, moves, move, move-number, does, Open, State, name-at, moved, innermost, start-tag, refusal-2, refusal-3, refusal-4, refusal-5, refusal-6, refusal-7, number-at}
+use Rattle.model.specs.Text.{Place, after, root-open, tag-open, Move, to, opens, begins, names, closes, stops, moves, move, move-number}
+use Rattle.model.specs.Text.{does, Open, State, name-at, moved, innermost, start-tag, refusal-2, refusal-3, refusal-4, refusal-5, refusal-6}
+use Rattle.model.specs.Text.{refusal-7, number-at}
 use Rattle.model.proofs.Tests.{Yes}
 use Rattle.model.proofs.ListLaws.{every-∈, ∈-numbers}
 use Rattle.model.specs.Text.{scan}
@@ -53,7 +56,8 @@ module _ (list : List ℕ) (p : Place) (c : Document) (os : List Open) (n i b : 
   unfolding number-at refusal-2 refusal-3 refusal-4 refusal-5 refusal-6 refusal-7 start-tag move is class-number
   number-is = rw (letter-first s)
 
-  one-byte : scan list (state p c os n) i (b ∷ s) ≡ cond (eqb number 0) (scan list (moved list (state p c os n) i (b ∷ s) (move-by p (class-number (class-of b)))) (suc i) s) (refuses number i)
+  one-byte : scan list (state p c os n) i (b ∷ s) ≡ cond (eqb number 0)
+      (scan list (moved list (state p c os n) i (b ∷ s) (move-by p (class-number (class-of b)))) (suc i) s) (refuses number i)
   unfolding scan move
   one-byte = rw number-is
 
@@ -97,8 +101,10 @@ stuck-by k m os n tag rest next i h = rw h (by (eqb k 8))
 
 -- after a move the state doesn't depend on the place before it
 same-after : (list : List ℕ) (p q : Place) (c : Document) (os : List Open) (n i : ℕ) (s rest : List ℕ) (k tag : ℕ) (m : Move)
-    → cond (eqb (number-by k m os n tag rest) 0) (scan list (moved list (state p c os n) i s m) (i + 1) rest) (refuses (number-by k m os n tag rest) i)
-    ≡ cond (eqb (number-by k m os n tag rest) 0) (scan list (moved list (state q c os n) i s m) (i + 1) rest) (refuses (number-by k m os n tag rest) i)
+    → cond (eqb (number-by k m os n tag rest) 0) (scan list (moved list (state p c os n) i s m) (i + 1) rest)
+    (refuses (number-by k m os n tag rest) i)
+    ≡ cond (eqb (number-by k m os n tag rest) 0) (scan list (moved list (state q c os n) i s m) (i + 1) rest)
+    (refuses (number-by k m os n tag rest) i)
 unfolding moved does move-number
 same-after list p q c os n i s rest k tag (to r) = refl
 same-after list p q c os n i s rest k tag opens = refl
@@ -120,7 +126,8 @@ module _ (list text : List ℕ) (c : Document) (os : List Open) (n : ℕ) where
 
     pub step : k < 9
         → onward list text (state p c os n) at
-        ≡ cond (eqb number-there 0) (onward list text (moved list (state p c os n) at (drop at text) (move-by p k)) (at + 1)) (refuses number-there at)
+        ≡ cond (eqb number-there 0) (onward list text (moved list (state p c os n) at (drop at text) (move-by p k)) (at + 1))
+        (refuses number-there at)
     step small =
         let h : at < length text = byte-there text at (omega arith) in
         let e : class-number (class-of (getD text at 0)) ≡ k = sym (class-there text at h) ∙ class in
@@ -134,7 +141,8 @@ module _ (list text : List ℕ) (c : Document) (os : List Open) (n : ℕ) where
       pub stuck-there : at < length text → onward list text (state p c os n) at ≡ refuses (stop-number k) at
       stuck-there there =
           step (small-class there)
-          ∙ stuck-by k (move-by p k) os n (tag-of list (name-at (drop at text))) (drop (at + 1) text) _ at (stops-at p goods all k (omega (arith, first-class-few (drop at text))) no-good)
+          ∙ stuck-by k (move-by p k) os n (tag-of list (name-at (drop at text)))
+          (drop (at + 1) text) _ at (stops-at p goods all k (omega (arith, first-class-few (drop at text))) no-good)
 
       pub stuck : does (to p) (to after) ≡ false → onward list text (state p c os n) at ≡ refuses (stop-number k) at
       unfolding scan
@@ -163,7 +171,8 @@ module _ (list text : List ℕ) (c : Document) (os : List Open) (n : ℕ) where
         by : Dec (at < length text) → onward list text (state p c os n) at ≡ onward list text (state q c os n) at
         by (yes h) =
             let small = small-class p at k class h in
-            step p at k class small ∙ rw e (same-after list p q c os n at (drop at text) (drop (at + 1) text) k (tag-of list (name-at (drop at text))) (move-by q k)) ∙ sym (step q at k class small)
+            step p at k class small ∙ rw e (same-after list p q c os n at (drop at text) (drop (at + 1) text) k
+            (tag-of list (name-at (drop at text))) (move-by q k)) ∙ sym (step q at k class small)
         by (no h) = rw (drop-of-length-le text {i = at} (omega arith), f)
 
   -- bytes that stay at a place
@@ -174,11 +183,15 @@ module _ (list text : List ℕ) (c : Document) (os : List Open) (n : ℕ) where
     stay i [] = rw add-zero
     stay i (b ∷ s) = by (test b) refl (stay (suc i) s)
       where
-        by : (t : Bool) → test b ≡ t → scan list (state p c os n) (suc i) s ≡ scan list (state p c os n) (suc i + run test s) (drop (run test s) s)
-            → scan list (state p c os n) i (b ∷ s) ≡ scan list (state p c os n) (i + cond t (suc (run test s)) 0) (drop (cond t (suc (run test s)) 0) (b ∷ s))
+        by : (t : Bool) → test b ≡ t → scan list (state p c os n) (suc i) s ≡ scan list (state p c os n) (suc i + run test s)
+            (drop (run test s) s)
+            → scan list (state p c os n) i (b ∷ s) ≡ scan list (state p c os n) (i + cond t (suc (run test s)) 0)
+            (drop (cond t (suc (run test s)) 0) (b ∷ s))
         by true h ih =
             let j : suc i + run test s ≡ i + suc (run test s) = omega arith in
-            one-byte list p c os n i b s ∙ rw (stays b h) (rw (free b (tag-of list (name-at (b ∷ s))) s h) (ih ∙ ap (λ (m : ℕ). scan list (state p c os n) m (drop (run test s) s)) j))
+            one-byte list p c os n i b s ∙ rw (stays b h)
+            (rw (free b (tag-of list (name-at (b ∷ s))) s h)
+            (ih ∙ ap (λ (m : ℕ). scan list (state p c os n) m (drop (run test s) s)) j))
         by false h ih = rw add-zero
 
     pub run-stays : (at : ℕ) → onward list text (state p c os n) at ≡ onward list text (state p c os n) (at + run test (drop at text))

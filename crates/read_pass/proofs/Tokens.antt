@@ -12,9 +12,12 @@ use borrow.Author.Tests.{eq-eqb, ne-eqb, le-leb, lt-leb}
 use Rattle.model.specs.Lists.{has, every, from}
 use Rattle.model.specs.Answers.{passes, refuses}
 use Rattle.model.specs.Tree.{Document, ε}
-use Rattle.model.specs.Bytes.{Class, white, letter, digit, hyphen, less, greater, slash, other, forbidden, class-number, is, class-of, within}
+use Rattle.model.specs.Bytes.{Class, white, letter, digit, hyphen, less, greater, slash, other, forbidden, class-number, is, class-of}
+use Rattle.model.specs.Bytes.{within}
 use Rattle.model.specs.Names.{tag-of}
-use Rattle.model.specs.Text.{Place, before, root-open, blank, in-text, tag-open, start-name, start-gap, start-slash, end-open, end-name, end-gap, after, to, opens, begins, moves, move-number, place-number, does, Open, name-at, text-at, behind, text-node, closed, moved, innermost}
+use Rattle.model.specs.Text.{Place, before, root-open, blank, in-text, tag-open, start-name, start-gap, start-slash, end-open, end-name}
+use Rattle.model.specs.Text.{end-gap, after, to, opens, begins, moves, move-number, place-number, does, Open, name-at, text-at, behind}
+use Rattle.model.specs.Text.{text-node, closed, moved, innermost}
 use Rattle.model.specs.Written.{text-byte}
 use Rattle.model.proofs.Tests.{Yes, never, between-inv}
 use Rattle.model.proofs.ByteLaws.{text-cases}
@@ -135,8 +138,10 @@ in-content = record { less-moves = refl; less-number = λ os n tag rest. refl; l
 -- a name stays at a place, which goes on as the place behind the name does where the name has ended
 record Names (p q : Place) : Type 0 where
   stays : (b : ℕ) → Yes (class-within 1 3 b) → move-by p (class-number (class-of b)) ≡ to p
-  free : (os : List Open) (n b tag : ℕ) (rest : List ℕ) → Yes (class-within 1 3 b) → number-by (class-number (class-of b)) (to p) os n tag rest ≡ 0
-  ends : (s : List ℕ) → move-by p (first-class (drop (run (class-within 1 3) s) s)) ≡ move-by q (first-class (drop (run (class-within 1 3) s) s))
+  free : (os : List Open) (n b tag : ℕ) (rest : List ℕ) → Yes (class-within 1 3 b) → number-by (class-number (class-of b))
+      (to p) os n tag rest ≡ 0
+  ends : (s : List ℕ) → move-by p (first-class (drop (run (class-within 1 3) s) s)) ≡ move-by q
+      (first-class (drop (run (class-within 1 3) s) s))
   inside : does (to p) (to after) ≡ does (to q) (to after)
 
 start-names : Names start-name start-gap
@@ -144,7 +149,8 @@ unfolding moves does move-number place-number
 start-names = record {
   stays = name-classes (λ k. move-by start-name k ≡ to start-name) refl refl refl;
   free = λ os n b tag rest. name-classes (λ k. number-by k (to start-name) os n tag rest ≡ 0) refl refl refl b;
-  ends = run-left (class-within 1 3) (λ k. move-by start-name k ≡ move-by start-gap k) (no-name (λ k. move-by start-name k ≡ move-by start-gap k) refl refl refl refl refl refl) refl;
+  ends = run-left (class-within 1 3) (λ k. move-by start-name k ≡ move-by start-gap k)
+      (no-name (λ k. move-by start-name k ≡ move-by start-gap k) refl refl refl refl refl refl) refl;
   inside = refl;
 }
 
@@ -153,7 +159,8 @@ unfolding moves does move-number place-number
 end-names = record {
   stays = name-classes (λ k. move-by end-name k ≡ to end-name) refl refl refl;
   free = λ os n b tag rest. name-classes (λ k. number-by k (to end-name) os n tag rest ≡ 0) refl refl refl b;
-  ends = run-left (class-within 1 3) (λ k. move-by end-name k ≡ move-by end-gap k) (no-name (λ k. move-by end-name k ≡ move-by end-gap k) refl refl refl refl refl refl) refl;
+  ends = run-left (class-within 1 3) (λ k. move-by end-name k ≡ move-by end-gap k)
+      (no-name (λ k. move-by end-name k ≡ move-by end-gap k) refl refl refl refl refl refl) refl;
   inside = refl;
 }
 
@@ -170,17 +177,21 @@ name-end text at = at + run (class-within 1 3) (drop at text)
 
 module _ (list text : List ℕ) (c : Document) (os : List Open) (n : ℕ) where
   -- past a name's first byte, up to its end
-  name-run : {p q : Place} → Names p q → (at : ℕ) → first-class (drop at text) ≡ 1 → onward list text (state p c os n) (at + 1) ≡ onward list text (state q c os n) (name-end text at)
+  name-run : {p q : Place} → Names p q → (at : ℕ) → first-class (drop at text) ≡ 1 → onward list text (state p c os n)
+      (at + 1) ≡ onward list text (state q c os n) (name-end text at)
   name-run {p} {q} names at e =
       let there : at < length text = byte-there text at (omega arith) in
       let one-more = run-on (class-within 1 3) text at there (letter-name (getD text at 0) (sym (class-there text at there) ∙ e)) in
       let end : at + 1 + run (class-within 1 3) (drop (at + 1) text) ≡ name-end text at = omega (arith, one-more) in
       run-stays list text c os n p (class-within 1 3) (names .stays) (names .free os n) (at + 1)
       ∙ ap (λ (i : ℕ). onward list text (state p c os n) i) end
-      ∙ alike list text c os n p q (name-end text at) (first-class (drop (name-end text at) text)) refl (rw drop-drop at (names .ends (drop at text))) (names .inside)
+      ∙ alike list text c os n p q (name-end text at) (first-class (drop (name-end text at) text)) refl
+      (rw drop-drop at (names .ends (drop at text))) (names .inside)
 
-  pub white-run : (p : Place) → Waits p → (at : ℕ) → onward list text (state p c os n) at ≡ onward list text (state p c os n) (at + run (class-within 0 0) (drop at text))
-  white-run p w = run-stays list text c os n p (class-within 0 0) (λ b h. rw (white-class b h) (w .stays)) (λ b tag rest h. rw (white-class b h) (w .free os n tag rest))
+  pub white-run : (p : Place) → Waits p → (at : ℕ) → onward list text (state p c os n) at ≡ onward list text (state p c os n)
+      (at + run (class-within 0 0) (drop at text))
+  white-run p w = run-stays list text c os n p (class-within 0 0) (λ b h. rw (white-class b h) (w .stays))
+      (λ b tag rest h. rw (white-class b h) (w .free os n tag rest))
 
 -- ---- start tags
 
@@ -188,10 +199,13 @@ module _ (list text : List ℕ) (c : Document) (os : List Open) (n : ℕ) where
   module _ {p q : Place} (leads : Leads p q) (at : ℕ) (opening : first-class (drop at text) ≡ 4) where
     -- the number at the <
     less-step : onward list text (state p c os n) at
-        ≡ cond (eqb (cond (eqb (first-class (drop (at + 1) text)) 1 && leb 32 (length os)) 6 (cond ((eqb (first-class (drop (at + 1) text)) 1 || false) && leb 4096 n) 7 0)) 0) (onward list text (state q c os n) (at + 1))
-        (refuses (cond (eqb (first-class (drop (at + 1) text)) 1 && leb 32 (length os)) 6 (cond ((eqb (first-class (drop (at + 1) text)) 1 || false) && leb 4096 n) 7 0)) at)
+        ≡ cond (eqb (cond (eqb (first-class (drop (at + 1) text)) 1 && leb 32 (length os)) 6
+        (cond ((eqb (first-class (drop (at + 1) text)) 1 || false) && leb 4096 n) 7 0)) 0) (onward list text (state q c os n) (at + 1))
+        (refuses (cond (eqb (first-class (drop (at + 1) text)) 1 && leb 32 (length os)) 6
+        (cond ((eqb (first-class (drop (at + 1) text)) 1 || false) && leb 4096 n) 7 0)) at)
     unfolding moved
-    less-step = step list text c os n p at 4 opening (omega arith) ∙ rw (leads .less-moves) (rw (leads .less-number os n (tag-of list (name-at (drop at text))) (drop (at + 1) text)))
+    less-step = step list text c os n p at 4 opening (omega arith) ∙ rw (leads .less-moves)
+        (rw (leads .less-number os n (tag-of list (name-at (drop at text))) (drop (at + 1) text)))
 
     -- no letter behind it
     pub less-on : first-class (drop (at + 1) text) ≢ 1 → onward list text (state p c os n) at ≡ onward list text (state q c os n) (at + 1)
@@ -215,35 +229,44 @@ module _ (list text : List ℕ) (c : Document) (os : List Open) (n : ℕ) where
 
         -- an element opens
         module _ (listed : tag-of list (name-at (drop (at + 1) text)) ≢ 0) where
-          opens-there : onward list text (state p c os n) at ≡ onward list text (state start-name ε (an-open (tag-of list (name-at (drop (at + 1) text))) c ∷ os) (suc n)) (at + 1 + 1)
+          opens-there : onward list text (state p c os n) at ≡ onward list text
+              (state start-name ε (an-open (tag-of list (name-at (drop (at + 1) text))) c ∷ os) (suc n)) (at + 1 + 1)
           unfolding does move-number place-number moved
-          opens-there = starts ∙ step list text c os n q (at + 1) 1 letter-next (omega arith) ∙ rw (leads .letter-opens) (rw (ne-eqb _ _ listed))
+          opens-there = starts ∙ step list text c os n q (at + 1) 1 letter-next (omega arith) ∙ rw (leads .letter-opens)
+              (rw (ne-eqb _ _ listed))
 
-          pub opened : onward list text (state p c os n) at ≡ onward list text (state start-gap ε (an-open (tag-of list (name-at (drop (at + 1) text))) c ∷ os) (suc n)) (name-end text (at + 1))
-          opened = opens-there ∙ name-run list text ε (an-open (tag-of list (name-at (drop (at + 1) text))) c ∷ os) (suc n) start-names (at + 1) letter-next
+          pub opened : onward list text (state p c os n) at ≡ onward list text
+              (state start-gap ε (an-open (tag-of list (name-at (drop (at + 1) text))) c ∷ os) (suc n)) (name-end text (at + 1))
+          opened = opens-there ∙ name-run list text ε (an-open (tag-of list (name-at (drop (at + 1) text))) c ∷ os) (suc n) start-names
+              (at + 1) letter-next
 
 -- ---- the ends of tags
 
 module _ (list text : List ℕ) (c : Document) (os : List Open) (n at : ℕ) where
   -- the > of a start tag, and of an empty one
-  pub start-ends : first-class (drop at text) ≡ 5 → onward list text (state start-gap c os n) at ≡ onward list text (state blank c os n) (at + 1)
+  pub start-ends : first-class (drop at text) ≡ 5 → onward list text (state start-gap c os n) at ≡ onward list text (state blank c os n)
+      (at + 1)
   unfolding moves does move-number place-number
   start-ends e = forward list text c os n start-gap at 5 e blank (omega arith) refl refl
 
-  pub slash-on : first-class (drop at text) ≡ 6 → onward list text (state start-gap c os n) at ≡ onward list text (state start-slash c os n) (at + 1)
+  pub slash-on : first-class (drop at text) ≡ 6 → onward list text (state start-gap c os n) at ≡ onward list text (state start-slash c os n)
+      (at + 1)
   unfolding moves does move-number place-number
   slash-on e = forward list text c os n start-gap at 6 e start-slash (omega arith) refl refl
 
-  pub empty-ends : first-class (drop at text) ≡ 5 → onward list text (state start-slash c os n) at ≡ onward list text (closed c os n) (at + 1)
+  pub empty-ends : first-class (drop at text) ≡ 5 → onward list text (state start-slash c os n) at ≡ onward list text (closed c os n)
+      (at + 1)
   unfolding moves does move-number place-number moved
   empty-ends e = step list text c os n start-slash at 5 e (omega arith)
 
   -- the </ and the > of an end tag
-  pub end-on : first-class (drop at text) ≡ 4 → first-class (drop (at + 1) text) ≡ 6 → onward list text (state blank c os n) at ≡ onward list text (state end-open c os n) (at + 2)
+  pub end-on : first-class (drop at text) ≡ 4 → first-class (drop (at + 1) text) ≡ 6 → onward list text
+      (state blank c os n) at ≡ onward list text (state end-open c os n) (at + 2)
   unfolding moves does move-number place-number
   end-on e f =
       let two : at + 1 + 1 ≡ at + 2 = omega arith in
-      less-on list text c os n in-content at e (λ g. absurd (omega arith)) ∙ forward list text c os n tag-open (at + 1) 6 f end-open (omega arith) refl refl
+      less-on list text c os n in-content at e (λ g. absurd (omega arith)) ∙ forward list text c os n tag-open (at + 1) 6 f end-open
+      (omega arith) refl refl
       ∙ ap (λ (i : ℕ). onward list text (state end-open c os n) i) two
 
   pub end-ends : first-class (drop at text) ≡ 5 → onward list text (state end-gap c os n) at ≡ onward list text (closed c os n) (at + 1)
@@ -256,9 +279,11 @@ module _ (list text : List ℕ) (c : Document) (os : List Open) (n at : ℕ) whe
     unfolding moves does move-number place-number
     other-name h = step list text c os n end-open at 1 letter-there (omega arith) ∙ rw (ne-eqb _ _ h)
 
-    pub own-name : tag-of list (name-at (drop at text)) ≡ innermost os → onward list text (state end-open c os n) at ≡ onward list text (state end-gap c os n) (name-end text at)
+    pub own-name : tag-of list (name-at (drop at text)) ≡ innermost os → onward list text (state end-open c os n) at ≡ onward list text
+        (state end-gap c os n) (name-end text at)
     unfolding moves does move-number place-number moved
-    own-name h = step list text c os n end-open at 1 letter-there (omega arith) ∙ rw (eq-eqb _ _ h) (name-run list text c os n end-names at letter-there)
+    own-name h = step list text c os n end-open at 1 letter-there (omega arith) ∙ rw (eq-eqb _ _ h)
+        (name-run list text c os n end-names at letter-there)
 
 -- ---- texts
 
@@ -271,18 +296,21 @@ text-stays : (b : ℕ) → Yes (text-byte b) → move-by in-text (class-number (
 unfolding moves class-number
 text-stays = text-cases (λ k. move-by in-text (class-number k) ≡ to in-text) refl refl refl refl refl refl
 
-text-free : (os : List Open) (n b tag : ℕ) (rest : List ℕ) → Yes (text-byte b) → number-by (class-number (class-of b)) (to in-text) os n tag rest ≡ 0
+text-free : (os : List Open) (n b tag : ℕ) (rest : List ℕ) → Yes (text-byte b) → number-by (class-number (class-of b))
+    (to in-text) os n tag rest ≡ 0
 unfolding class-number does move-number place-number
 text-free os n b tag rest = text-cases (λ k. number-by (class-number k) (to in-text) os n tag rest ≡ 0) refl refl refl refl refl refl b
 
 -- behind a text is none of its bytes
 text-left : (s : List ℕ) → has (0 ∷ 1 ∷ 2 ∷ 3 ∷ 6 ∷ 7 ∷ []) (first-class (drop (run text-byte s) s)) ≡ false
 unfolding has
-text-left = run-left text-byte (λ k. has (0 ∷ 1 ∷ 2 ∷ 3 ∷ 6 ∷ 7 ∷ []) k ≡ false) (no-text (λ k. has (0 ∷ 1 ∷ 2 ∷ 3 ∷ 6 ∷ 7 ∷ []) k ≡ false) refl refl refl) refl
+text-left = run-left text-byte (λ k. has (0 ∷ 1 ∷ 2 ∷ 3 ∷ 6 ∷ 7 ∷ []) k ≡ false)
+    (no-text (λ k. has (0 ∷ 1 ∷ 2 ∷ 3 ∷ 6 ∷ 7 ∷ []) k ≡ false) refl refl refl) refl
 
 solid-text : (b k : ℕ) → class-number (class-of b) ≡ k → k ≢ 0 → k ≢ 4 → k ≢ 5 → k < 8 → Yes (text-byte b)
 unfolding text-byte is class-number
-solid-text b k e w l g h = rw e (solid-classes (λ k. (not (eqb k 4) && (not (eqb k 5) && not (eqb k 8))) ≡ true) refl refl refl refl refl k w l g h)
+solid-text b k e w l g h = rw e
+    (solid-classes (λ k. (not (eqb k 4) && (not (eqb k 5) && not (eqb k 8))) ≡ true) refl refl refl refl refl k w l g h)
 
 module _ (list text : List ℕ) (c : Document) (os : List Open) (n at k : ℕ)
     (class : first-class (drop at text) ≡ k) (no-white : k ≢ 0) (no-less : k ≢ 4) (no-greater : k ≢ 5) (allowed : k < 8) where
@@ -310,21 +338,25 @@ module _ (list text : List ℕ) (c : Document) (os : List Open) (n at k : ℕ)
     in-text-run : onward list text (state blank c os n) at ≡ onward list text (state in-text with-text os (suc n)) (text-end text at)
     in-text-run =
         let there : at < length text = byte-there text at (omega arith) in
-        let first : Yes (text-byte (getD text at 0)) = solid-text (getD text at 0) k (sym (class-there text at there) ∙ class) no-white no-less no-greater allowed in
+        let first : Yes (text-byte (getD text at 0)) = solid-text (getD text at 0) k
+        (sym (class-there text at there) ∙ class) no-white no-less no-greater allowed in
         let end : at + 1 + run text-byte (drop (at + 1) text) ≡ text-end text at = omega (arith, run-on text-byte text at there first) in
         text-begins ∙ run-stays list text with-text os (suc n) in-text text-byte text-stays (text-free os (suc n)) (at + 1)
         ∙ ap (λ (i : ℕ). onward list text (state in-text with-text os (suc n)) i) end
 
     -- a text is followed by <, or the form can't go on
-    pub text-ends : first-class (drop (text-end text at) text) ≡ 4 → onward list text (state blank c os n) at ≡ onward list text (state blank with-text os (suc n)) (text-end text at)
+    pub text-ends : first-class (drop (text-end text at) text) ≡ 4 → onward list text (state blank c os n) at ≡ onward list text
+        (state blank with-text os (suc n)) (text-end text at)
     unfolding moves does move-number place-number
     text-ends e = in-text-run ∙ alike list text with-text os (suc n) in-text blank (text-end text at) 4 e refl refl
 
-    pub text-broken : (j : ℕ) → first-class (drop (text-end text at) text) ≡ j → j ≢ 4 → onward list text (state blank c os n) at ≡ refuses (stop-number j) (text-end text at)
+    pub text-broken : (j : ℕ) → first-class (drop (text-end text at) text) ≡ j → j ≢ 4 → onward list text (state blank c os n) at ≡ refuses
+        (stop-number j) (text-end text at)
     unfolding moves does move-number place-number has every from
     text-broken j e h =
         in-text-run
-        ∙ stuck list text with-text os (suc n) in-text (text-end text at) j e (4 ∷ 0 ∷ 1 ∷ 2 ∷ 3 ∷ 6 ∷ 7 ∷ []) refl (rw (ne-eqb j 4 h) (rw (drop-drop, e) at (text-left (drop at text)))) refl
+        ∙ stuck list text with-text os (suc n) in-text (text-end text at) j e (4 ∷ 0 ∷ 1 ∷ 2 ∷ 3 ∷ 6 ∷ 7 ∷ []) refl
+        (rw (ne-eqb j 4 h) (rw (drop-drop, e) at (text-left (drop at text)))) refl
 
 -- ---- where the form can't go on
 
@@ -351,7 +383,8 @@ module _ (list text : List ℕ) (c : Document) (os : List Open) (n at k : ℕ) (
 
   pub stuck-start-gap : k ≢ 0 → k ≢ 5 → k ≢ 6 → onward list text (state start-gap c os n) at ≡ refuses (stop-number k) at
   unfolding moves does move-number place-number has every from
-  stuck-start-gap a b d = stuck list text c os n start-gap at k class (0 ∷ 5 ∷ 6 ∷ []) refl (rw (ne-eqb k 0 a, ne-eqb k 5 b, ne-eqb k 6 d)) refl
+  stuck-start-gap a b d = stuck list text c os n start-gap at k class (0 ∷ 5 ∷ 6 ∷ []) refl
+      (rw (ne-eqb k 0 a, ne-eqb k 5 b, ne-eqb k 6 d)) refl
 
   pub stuck-start-slash : k ≢ 5 → onward list text (state start-slash c os n) at ≡ refuses (stop-number k) at
   unfolding moves does move-number place-number has every from
@@ -372,7 +405,15 @@ module _ (list text : List ℕ) (c : Document) (os : List Open) (n at k : ℕ) (
     where
       by : (k ≡ 5) ⊎ (8 ≤ k) → has (0 ∷ 1 ∷ 2 ∷ 3 ∷ 4 ∷ 6 ∷ 7 ∷ []) k ≡ false
       by (inl e) = rw e
-      by (inr e) = rw (ne-eqb k 0 (omega arith), ne-eqb k 1 (omega arith), ne-eqb k 2 (omega arith), ne-eqb k 3 (omega arith), ne-eqb k 4 (omega arith), ne-eqb k 6 (omega arith), ne-eqb k 7 (omega arith))
+      by (inr e) = rw (
+        ne-eqb k 0 (omega arith),
+        ne-eqb k 1 (omega arith),
+        ne-eqb k 2 (omega arith),
+        ne-eqb k 3 (omega arith),
+        ne-eqb k 4 (omega arith),
+        ne-eqb k 6 (omega arith),
+        ne-eqb k 7 (omega arith),
+      )
 
   -- after the root, every byte that is not white
   pub stuck-after : at < length text → k ≢ 0 → onward list text (state after c os n) at ≡ refuses (stop-number k) at
@@ -380,6 +421,7 @@ module _ (list text : List ℕ) (c : Document) (os : List Open) (n at k : ℕ) (
   stuck-after there a = stuck-there list text c os n after at k class (0 ∷ []) refl (rw (ne-eqb k 0 a)) there
 
 -- the whole text is read
-pub all-read : (list text : List ℕ) (c : Document) (os : List Open) (n at : ℕ) → length text ≤ at → onward list text (state after c os n) at ≡ passes c
+pub all-read : (list text : List ℕ) (c : Document) (os : List Open) (n at : ℕ) → length text ≤ at → onward list text
+    (state after c os n) at ≡ passes c
 unfolding scan does move-number place-number
 all-read list text c os n at h = rw (drop-of-length-le text h)

@@ -5,7 +5,8 @@ use Prim.Native.Nat.{ℕ, _*_, _≤_, _<_}
 use native.Mathlib.Omega.{arith}
 use lib.ListN.{length, drop, take}
 use borrow.Author.Tests.{le-leb, lt-leb}
-use Rattle.model.specs.Answers.{count, refusal, said-refusal, said, Checked, passes, refuses, _>>=_, _>>_, require, room-for, answer-of, buffer-after}
+use Rattle.model.specs.Answers.{count, refusal, said-refusal, said, Checked, passes, refuses, _>>=_, _>>_, require, room-for, answer-of}
+use Rattle.model.specs.Answers.{buffer-after}
 use Rattle.model.specs.Tree.{sizeD}
 use Rattle.model.specs.Names.{names-of}
 use Rattle.model.specs.Text.{form-of}
@@ -32,7 +33,8 @@ unfolding said answer-of
 counts-passed (passes n) g e = cc
 counts-passed (refuses n i) g e = let z : _≡_ {A = ℕ} 0 1 = cc in absurd (omega arith)
 
-refuses-refused : (c : Checked ℕ) (x : Refusal) → said (Error x) ≡ answer-of (λ n. n) c → (n : ℕ) × (i : ℕ) × (c ≡ refuses n i) × (said-refusal x ≡ refusal n i)
+refuses-refused : (c : Checked ℕ) (x : Refusal) → said (Error x) ≡ answer-of (λ n. n) c → (n : ℕ) × (i : ℕ) × (c ≡ refuses n i) ×
+    (said-refusal x ≡ refusal n i)
 unfolding said answer-of
 refuses-refused (passes m) x e = let (n, i, f) = refusal-says x in let z : _≡_ {A = ℕ} 0 1 = cc in absurd (omega arith)
 refuses-refused (refuses n i) x e = (n, i, refl, e)
@@ -43,7 +45,8 @@ module _ (list text tree : List ℕ) where
   Told r after = (said r ≡ read-said list text tree) × (after ≡ read-tree list text tree)
 
   -- where a check refuses, nothing is written
-  told-refused : {n i : ℕ} (x : Refusal) → calls.read list text (length tree) ≡ refuses n i → said-refusal x ≡ refusal n i → Told (Error x) tree
+  told-refused : {n i : ℕ} (x : Refusal) → calls.read list text (length tree) ≡ refuses n i → said-refusal x ≡ refusal n i → Told
+      (Error x) tree
   unfolding said read-said read-tree answer-of buffer-after _>>=_
   told-refused x e f = (rw e f, rw e)
 
@@ -72,7 +75,8 @@ module _ (list text tree : List ℕ) where
 
     pub long-text : 65535 < length text → Told (Error LongText) tree
     unfolding said-refusal
-    long-text h = refused-form (record { number = 1; place = 65535; is = scan-is list text ∙ rw (lt-leb (length text) 65535 h); says = refl })
+    long-text h = refused-form (record
+        { number = 1; place = 65535; is = scan-is list text ∙ rw (lt-leb (length text) 65535 h); says = refl })
 
     module _ {words : List ℕ} {n : ℕ} (w : Whole list text words n) where
       read-whole : calls.read list text (length tree) ≡ (room-for (4 * n) (length tree) >> passes (w .form))

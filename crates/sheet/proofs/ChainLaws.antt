@@ -20,7 +20,8 @@ use Rattle.parts.proofs.LengthLaws.{key-of-rule, key-few}
 use Rattle.sheet.specs.Places.{HeadsAre, key-at, with-entry, EntryFits}
 
 -- a word of a list in which one word is set
-pub set-there : (l : List ℕ) (i x k : ℕ) → i < length l → (P : ℕ → Type 0) → (k ≡ i → P x) → (k ≢ i → P (getD l k 0)) → P (getD (set l i x) k 0)
+pub set-there : (l : List ℕ) (i x k : ℕ) → i < length l → (P : ℕ → Type 0) → (k ≡ i → P x) → (k ≢ i → P (getD l k 0)) → P
+    (getD (set l i x) k 0)
 set-there l i x k h P here other = go (told (eqb k i))
   where
     go : Told (eqb k i) → P (getD (set l i x) k 0)
@@ -52,9 +53,11 @@ getD-ext : (xs ys : List ℕ) (d : ℕ) → length xs ≡ length ys → ((i : �
 getD-ext [] [] d e h = refl
 getD-ext [] (y ∷ ys) d e h = absurd (omega arith)
 getD-ext (x ∷ xs) [] d e h = absurd (omega arith)
-getD-ext (x ∷ xs) (y ∷ ys) d e h = ap₂ {C = List ℕ} _∷_ (h 0 (omega arith)) (getD-ext xs ys d (omega arith) (λ i l. h (suc i) (omega arith)))
+getD-ext (x ∷ xs) (y ∷ ys) d e h = ap₂ {C = List ℕ} _∷_ (h 0 (omega arith))
+    (getD-ext xs ys d (omega arith) (λ i l. h (suc i) (omega arith)))
 
-in-parts : (a b : List ℕ) (P : ℕ → ℕ → Type 0) → ((i : ℕ) → i < length a → P i (getD a i 0)) → ((k : ℕ) → P (length a + k) (getD b k 0)) → (i : ℕ)
+in-parts : (a b : List ℕ) (P : ℕ → ℕ → Type 0) → ((i : ℕ) → i < length a → P i (getD a i 0)) → ((k : ℕ) → P (length a + k) (getD b k 0)) →
+    (i : ℕ)
     → P i (getD (a ++ b) i 0)
 in-parts a b P first second i = go (told (ltb i (length a)))
   where
@@ -71,7 +74,8 @@ entry-here : (p : ℕ) (R : List Rule) (j : ℕ) → j < length R
     → getD (entries p 6 0 R) j 0 ≡ begin p 6 R j + first-with (key (nth R j)) (suc j) (drop (suc j) R) * 2 ^ 16
 entry-here p R j l = rw (zero-add (suc j)) at (entry-is p 6 0 R j l)
 
-pub entry-put : (s index : List ℕ) (at j : ℕ) {key : ℕ} → key ≡ key-at s at → set (set index (67 + j) (at + getD index key 0 * 2 ^ 16)) key j ≡ with-entry s index j at
+pub entry-put : (s index : List ℕ) (at j : ℕ) {key : ℕ} → key ≡ key-at s at → set
+    (set index (67 + j) (at + getD index key 0 * 2 ^ 16)) key j ≡ with-entry s index j at
 unfolding with-entry
 entry-put s index at j e = rw e
 
@@ -85,7 +89,8 @@ pub record Chaining (s old index : List ℕ) (j : ℕ) : Type 0 where
 
 module _ {s : List ℕ} (ok : Passes s) where
   -- with no rule there is only the end
-  pub chaining-none : {old cleared : List ℕ} {n j : ℕ} → HeadsAre n old cleared → n ≡ getD s 5 0 → j ≡ n → length old ≡ 1092 → Chaining s old (set cleared (67 + j) (length s)) j
+  pub chaining-none : {old cleared : List ℕ} {n j : ℕ} → HeadsAre n old cleared → n ≡ getD s 5 0 → j ≡ n → length old ≡ 1092 → Chaining s
+      old (set cleared (67 + j) (length s)) j
   unfolding first-with
   chaining-none {old} {cleared} {n} {j} h e f room =
       let number : j ≡ length (rules-in s) = f ∙ e ∙ rules-word ok in
@@ -101,7 +106,8 @@ module _ {s : List ℕ} (ok : Passes s) where
             let k-is : k ≡ length (rules-in s) = omega arith in
             set-there cleared (67 + j) (length s) (67 + k) inside (λ x. x ≡ getD (entries (sheet-in s .states) 6 0 (rules-in s)) k 0)
             (λ _. rw k-is end) (λ d. absurd (omega arith));
-        rest = λ k l. set-there cleared (67 + j) (length s) k inside (λ x. x ≡ getD old k 0) (λ e. absurd (omega arith)) (λ _. h .others k (omega arith));
+        rest = λ k l. set-there cleared (67 + j) (length s) k inside (λ x. x ≡ getD old k 0) (λ e. absurd (omega arith))
+            (λ _. h .others k (omega arith));
       }
 
   module _ {old index : List ℕ} {i j : ℕ} (h : Chaining s old index i) (next : i ≡ suc j) (room : length old ≡ 1092) where
@@ -133,12 +139,15 @@ module _ {s : List ℕ} (ok : Passes s) where
           long = length-set (set index (67 + j) w) (key r) j ∙ length-set index (67 + j) w ∙ h .long;
           few = omega (arith, number);
           heads = λ k l. rw split
-              (set-there (set index (67 + j) w) (key r) j k in-second (λ x. x ≡ cond (eqb (key r) k) j (first-with k (suc j) (drop (suc j) R)))
+              (set-there (set index (67 + j) w) (key r) j k in-second
+              (λ x. x ≡ cond (eqb (key r) k) j (first-with k (suc j) (drop (suc j) R)))
               (λ same-key. rw (eqb-yes {m = key r} {n = k} (sym same-key)))
               (λ other. rw (eqb-false {m = key r} {n = k} (λ z. other (sym z)))
-              (set-there index (67 + j) w k in-first (λ x. x ≡ first-with k (suc j) (drop (suc j) R)) (λ z. absurd (omega arith)) (λ _. rw next at (h .heads k l)))));
+              (set-there index (67 + j) w k in-first (λ x. x ≡ first-with k (suc j) (drop (suc j) R)) (λ z. absurd (omega arith))
+              (λ _. rw next at (h .heads k l)))));
           there = λ k l m.
-              set-there (set index (67 + j) w) (key r) j (67 + k) in-second (λ x. x ≡ getD (entries (sheet-in s .states) 6 0 R) k 0) (λ z. absurd (omega arith))
+              set-there (set index (67 + j) w) (key r) j (67 + k) in-second (λ x. x ≡ getD (entries (sheet-in s .states) 6 0 R) k 0)
+              (λ z. absurd (omega arith))
               (λ _. set-there index (67 + j) w (67 + k) in-first (λ x. x ≡ getD (entries (sheet-in s .states) 6 0 R) k 0)
               (λ z. let here : k ≡ j = omega arith in rw here (omega (arith, head, e, entry-here (sheet-in s .states) R j number)))
               (λ d. h .there k (omega (arith, d)) m));
@@ -157,8 +166,14 @@ module _ {s : List ℕ} (ok : Passes s) where
       let words = index-heads R ++ table in
       let n = length words in
       let none : j ≡ 0 = omega arith in
-      let long : n ≡ 68 + length R = omega (arith, length-append (index-heads R) table, heads-long R, entries-long (sheet-in s .states) 6 0 R) in
-      getD-ext index (words ++ drop n old) 0 (omega (arith, h .long, length-append words (drop n old), length-drop n old, in-range ok .few-rules))
+      let long : n ≡ 68 + length R = omega (
+        arith,
+        length-append (index-heads R) table,
+        heads-long R,
+        entries-long (sheet-in s .states) 6 0 R,
+      ) in
+      getD-ext index (words ++ drop n old) 0
+      (omega (arith, h .long, length-append words (drop n old), length-drop n old, in-range ok .few-rules))
       (λ i m. in-parts words (drop n old) (λ i x. getD index i 0 ≡ x)
       (λ i k. in-parts (index-heads R) table (λ i x. i < n → getD index i 0 ≡ x)
       (λ i k _. (rw none at (h .heads i (omega (arith, heads-long R)))) ∙ sym (head-is R i (omega (arith, heads-long R))))

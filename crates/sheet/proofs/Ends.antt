@@ -75,6 +75,7 @@ module _ (s : List ℕ) {r : Answer} (e : said r ≡ sheet-said s) where
   unfolding index-after _>>=_ buffer-after
   index-refused index f = let (_, h, _) = sheet-refused s e f in rw h
 
-pub index-left : {s : List ℕ} (index : List ℕ) {left : List ℕ} → Passes s → left ≡ buffer-after index (passes (index-words (sheet-in s))) → left ≡ index-after index s
+pub index-left : {s : List ℕ} (index : List ℕ) {left : List ℕ} → Passes s → left ≡ buffer-after index
+    (passes (index-words (sheet-in s))) → left ≡ index-after index s
 unfolding index-after _>>=_
 index-left index ok e = rw (ok .as-sheet) e

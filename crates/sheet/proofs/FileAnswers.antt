@@ -8,7 +8,8 @@ use borrow.Author.Tests as tests
 use Rattle.model.specs.declared.Refusal.{Refusal}
 use Rattle.model.specs.declared.Answer.{Answer}
 use Rattle.model.specs.declared.Answer.the-variants.{Count, Error}
-use Rattle.model.specs.Answers.{Said, count, refusal, said-refusal, said, passes, refuses, _>>=_, _>>_, require, room-for, answer-of, buffer-after}
+use Rattle.model.specs.Answers.{Said, count, refusal, said-refusal, said, passes, refuses, _>>=_, _>>_, require, room-for, answer-of}
+use Rattle.model.specs.Answers.{buffer-after}
 use Rattle.model.specs.Sheet.{Sheet, sheet-of, file-words}
 use Rattle.model.specs.Calls.{sheet-said, from-file, from-file-said, from-file-sheet}
 use Rattle.sheet.proofs.Files.{whole-length, file-refused, file-over, file-whole}
@@ -27,12 +28,14 @@ module _ (b d : List ℕ) {t : Sheet} (e : sheet-of (file-words b) ≡ passes t)
   unfolding from-file-said from-file-sheet from-file _>>=_ _>>_ require room-for answer-of buffer-after
   short-call h = let f = tests.lt-leb (length (file-words b)) (length d) h in (rw (e, f), rw (e, f))
 
-  passed-call : length (file-words b) ≤ length d → Gives b d (count (length (file-words b))) (file-words b ++ drop (length (file-words b)) d)
+  passed-call : length (file-words b) ≤ length d → Gives b d (count (length (file-words b)))
+      (file-words b ++ drop (length (file-words b)) d)
   unfolding from-file-said from-file-sheet from-file _>>=_ _>>_ require room-for answer-of buffer-after
   passed-call h = let f = tests.le-leb (length (file-words b)) (length d) h in (rw (e, f), rw (e, f))
 
 -- the whole words stand at the front of a buffer
-module _ (b room : List ℕ) {room′ : List ℕ} {n : ℕ} (en : n ≡ min 16384 (length b / 4)) (er : room′ ≡ take n (file-words b) ++ drop n room) where
+module _ (b room : List ℕ) {room′ : List ℕ} {n : ℕ} (en : n ≡ min 16384 (length b / 4))
+    (er : room′ ≡ take n (file-words b) ++ drop n room) where
   pub front : take n room′ ≡ take n (file-words b)
   front = ap (take n) er ∙ take-at (take n (file-words b)) (drop n room) n (whole-length b en)
 

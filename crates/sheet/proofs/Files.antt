@@ -27,7 +27,11 @@ together {a} {b} {c} {d} ha hb hc hd =
     let eb : b * 256 % W ≡ b * 256 = omega arith in
     let ec : c * 65536 % W ≡ c * 65536 = omega arith in
     let ed : d * 16777216 % W ≡ d * 16777216 = omega arith in
-    rw (eb, ec, ed) (rw (or-shifted-r b 8 a ha, or-shifted-r c 16 (b * 256 + a) (omega arith), or-shifted-r d 24 (c * 65536 + (b * 256 + a)) (omega arith))
+    rw (eb, ec, ed) (rw (
+      or-shifted-r b 8 a ha,
+      or-shifted-r c 16 (b * 256 + a) (omega arith),
+      or-shifted-r d 24 (c * 65536 + (b * 256 + a)) (omega arith),
+    )
     (omega arith))
 
 -- bytes over count as a word
@@ -103,7 +107,8 @@ module _ (b : List ℕ) {n : ℕ} (en : n ≡ min 16384 (length b / 4)) where
       go (nay t) =
           let h = tests.leb-false 16384 (length b / 4) t in
           let i : n ≡ length b / 4 = omega arith in
-          ap (λ (x : List ℕ). sheet x 0) (take-all 16384 (file-words b) (omega (arith, file-length b)) ∙ sym (take-append-drop n (file-words b)))
+          ap (λ (x : List ℕ). sheet x 0) (take-all 16384 (file-words b)
+          (omega (arith, file-length b)) ∙ sym (take-append-drop n (file-words b)))
           ∙ by (drop n (file-words b)) (rw i (rest b))
 
   first-words : sheet-of whole ≡ ended n (sheet whole 0)

@@ -13,7 +13,8 @@ use borrow.Author.Tests as tests
 use Rattle.model.specs.Lists.{_∈_, numbers}
 use Rattle.model.specs.Answers.{passes, refuses}
 use Rattle.model.specs.Sheet.{Sheet, W, Got, got, bad, Reader, give, then, _>>=_, word, between, below, one-of, all}
-use Rattle.model.specs.Sheet.{set-below, arc-ok, arc, order, coefficient, sum, at-most-step, remainder-step, one-earlier, two-earlier, step, steps}
+use Rattle.model.specs.Sheet.{set-below, arc-ok, arc, order, coefficient, sum, at-most-step, remainder-step, one-earlier, two-earlier, step}
+use Rattle.model.specs.Sheet.{steps}
 use Rattle.model.specs.Sheet.{target, text-rule, tag-rule, order-rule, count-rule, order-count-rule, rule, sheet, ended, sheet-of}
 use Rattle.model.proofs.Tests.{Yes, Told, yea, nay, told, between-inv}
 use Rattle.model.proofs.CheckLaws.{refuses≢passes}
@@ -38,14 +39,16 @@ pub record Closed {A : Type 0} (r : Reader A) : Type 0 where
 
 -- a test that fails on the last word
 last-fails : {A : Type 0} (ok : ℕ → Bool) → ok W ≡ false → (s : List ℕ) (i : ℕ) (f g : ℕ → A) (y : A) → ((x : ℕ) → f x ≡ g x)
-    → cond (ltb i (length (over s)) && ok (getD (over s) i 0)) (f (getD (over s) i 0)) y ≡ cond (ltb i (length s) && ok (getD s i 0)) (g (getD s i 0)) y
+    → cond (ltb i (length (over s)) && ok (getD (over s) i 0)) (f (getD (over s) i 0)) y ≡ cond (ltb i (length s) && ok (getD s i 0))
+    (g (getD s i 0)) y
 last-fails ok h s i f g y e = go (told (ltb i (length s))) (told (eqb i (length s)))
   where
     long : length (over s) ≡ length s + 1
     long = length-append s (W ∷ [])
 
     go : Told (ltb i (length s)) → Told (eqb i (length s))
-        → cond (ltb i (length (over s)) && ok (getD (over s) i 0)) (f (getD (over s) i 0)) y ≡ cond (ltb i (length s) && ok (getD s i 0)) (g (getD s i 0)) y
+        → cond (ltb i (length (over s)) && ok (getD (over s) i 0)) (f (getD (over s) i 0)) y ≡ cond (ltb i (length s) && ok (getD s i 0))
+        (g (getD s i 0)) y
     go (yea t) u =
         let l = tests.ltb-true i (length s) t in
         rw (tests.lt-ltb i (length (over s)) (omega (arith, long)), t, List·getD-append s (W ∷ []) 0 i l, e (getD s i 0))
@@ -61,7 +64,8 @@ closed-give x = record { same = λ s i. refl; inside = λ s i h. h }
 
 closed-then : {A B : Type 0} {r : Reader A} {f : A → Reader B} → Closed r → ((x : A) → Closed (f x)) → Closed (r >>= f)
 unfolding then
-closed-then {A} {r = r} {f = f} h k = record { same = λ s i. rw (h .same s i) (go s (r s i)); inside = λ s i l. on s (r s i) (h .inside s i l) }
+closed-then {A} {r = r} {f = f} h k = record
+    { same = λ s i. rw (h .same s i) (go s (r s i)); inside = λ s i l. on s (r s i) (h .inside s i l) }
   where
     go : (s : List ℕ) (g : Got A) → then (over s) g f ≡ then s g f
     go s (got x n) = k x .same s n
@@ -81,7 +85,8 @@ word-stops ok s i {j} e = go (ltb i (length s) && ok (getD s i 0)) e
     go false e = cc
 
 -- what a word's test tells is known of what follows
-closed-word : {B : Type 0} {ok : ℕ → Bool} {f : ℕ → Reader B} → ok W ≡ false → ((x : ℕ) → Yes (ok x) → Closed (f x)) → Closed (word ok >>= f)
+closed-word : {B : Type 0} {ok : ℕ → Bool} {f : ℕ → Reader B} → ok W ≡ false → ((x : ℕ) → Yes (ok x) → Closed (f x)) → Closed
+    (word ok >>= f)
 unfolding then word
 closed-word {ok = ok} {f = f} h k = record {
   same = λ s i. rw (last-fails ok h s i (λ x. got x (i + 1)) (λ x. got x (i + 1)) (bad i) (λ x. refl)) (go s i (word ok s i) refl);
@@ -93,7 +98,8 @@ closed-word {ok = ok} {f = f} h k = record {
     go s i (bad j) e = refl
 
     on : (s : List ℕ) (i : ℕ) → i ≤ length s → (g : Got ℕ) → word ok s i ≡ g → Within (length s) (then s g f)
-    on s i l (got x n) e = let (y, p) = word-reads ok .forwards {s = s} {a = i} e in k x y .inside s n (omega (arith, word-there p, p .ends))
+    on s i l (got x n) e = let (y, p) = word-reads ok .forwards {s = s} {a = i} e in k x y .inside s n
+        (omega (arith, word-there p, p .ends))
     on s i l (bad j) e = omega (arith, word-stops ok s i e)
 
 closed-all : {A B : Type 0} {r : B → Reader A} (l : List B) → ((b : B) → b ∈ l → Closed (r b)) → Closed (all r l)
@@ -106,7 +112,8 @@ closed-none : {A : Type 0} → Closed (one-of {A = A} [])
 unfolding one-of
 closed-none = record { same = λ s i. refl; inside = λ s i h. h }
 
-closed-key : {A : Type 0} (k : ℕ) {r : Reader A} (cs : List (ℕ × Reader A)) → eqb W k ≡ false → Closed r → Closed (one-of cs) → Closed (one-of ((k, r) ∷ cs))
+closed-key : {A : Type 0} (k : ℕ) {r : Reader A} (cs : List (ℕ × Reader A)) → eqb W k ≡ false → Closed r → Closed (one-of cs) → Closed
+    (one-of ((k, r) ∷ cs))
 unfolding one-of
 closed-key k {r} cs h hr hc = record {
   same = λ s i.
@@ -145,7 +152,8 @@ closed-order : (p : ℕ) → Closed (order p)
 unfolding order arc
 closed-order p =
     closed-word refl (λ m y. closed-then (closed-set m (between-inv 1 64 m y .1)) (λ accepting.
-    closed-word refl (λ n _. closed-then (closed-all (numbers n) (λ i _. closed-word (no-arc p m) (λ w _. closed-give _))) (λ arcs. closed-give _))))
+    closed-word refl (λ n _. closed-then (closed-all (numbers n) (λ i _. closed-word (no-arc p m) (λ w _. closed-give _)))
+    (λ arcs. closed-give _))))
 
 module _ (p : ℕ) (h : p ≤ 64) where
   closed-sum : Closed (sum p)
@@ -168,7 +176,8 @@ module _ (p : ℕ) (h : p ≤ 64) where
 
   closed-steps : Closed (steps p)
   unfolding steps
-  closed-steps = closed-word refl (λ n y. closed-all (numbers n) (λ i m. closed-step i (omega (arith, numbers-< n m, between-inv 1 32 n y .1))))
+  closed-steps = closed-word refl
+      (λ n y. closed-all (numbers n) (λ i m. closed-step i (omega (arith, numbers-< n m, between-inv 1 32 n y .1))))
 
   closed-rule : (g : ℕ) → g ≤ 64 → Closed (rule p g)
   unfolding rule target text-rule tag-rule order-rule count-rule order-count-rule
@@ -189,7 +198,8 @@ unfolding sheet
 closed-sheet =
     closed-word refl (λ edition _. closed-word refl (λ p y. closed-then (closed-set p (between-inv 1 64 p y .1)) (λ final.
     closed-word refl (λ g z. closed-word refl (λ n _.
-    closed-then (closed-all (numbers n) (λ i _. closed-rule p (between-inv 1 64 p y .1) g (between-inv 1 64 g z .1))) (λ rs. closed-give _))))))
+    closed-then (closed-all (numbers n) (λ i _. closed-rule p (between-inv 1 64 p y .1) g (between-inv 1 64 g z .1)))
+    (λ rs. closed-give _))))))
 
 pub refused-place : (s : List ℕ) {n i : ℕ} → sheet-of s ≡ refuses n i → i ≤ 16384
 unfolding sheet-of ended

@@ -53,7 +53,8 @@ module _ (places : List ℕ) (i at : ℕ) where
 -- ---- rules that are read
 
 -- the first of several parts that are read, and the others
-all-first : {A B : Type 0} (r : B → Reader A) (b : B) (l : List B) (s : List ℕ) (a : ℕ) {xs : List A} {next : ℕ} → all r (b ∷ l) s a ≡ got xs next
+all-first : {A B : Type 0} (r : B → Reader A) (b : B) (l : List B) (s : List ℕ) (a : ℕ) {xs : List A} {next : ℕ} → all r
+    (b ∷ l) s a ≡ got xs next
     → (x : A) × (ys : List A) × (n : ℕ) × (xs ≡ x ∷ ys) × (r b s a ≡ got x n) × (all r l s n ≡ got ys next)
 unfolding all then
 all-first {A} r b l s a {xs} {next} e = go (r b s a) refl e
@@ -96,7 +97,8 @@ noting-none {n = n} = record {
 }
 
 -- the next of them is read from where it begins to where the one after it begins
-module _ {p g n a next i : ℕ} {s : List ℕ} {R : List Rule} {walk : Walk} {places : List ℕ} (h : Left p g n s a next R walk places i) (few : p ≤ 64) (l : i < n) where
+module _ {p g n a next i : ℕ} {s : List ℕ} {R : List Rule} {walk : Walk} {places : List ℕ} (h : Left p g n s a next R walk places i)
+    (few : p ≤ 64) (l : i < n) where
   record Reading : Type 0 where
     some : i < length R
     reads : rule p g s (begin p a R i) ≡ got (nth R i) (begin p a R (suc i))
@@ -106,7 +108,8 @@ module _ {p g n a next i : ℕ} {s : List ℕ} {R : List Rule} {walk : Walk} {pl
   unfolding from
   reading =
       let e : n - i ≡ suc (n - suc i) = omega arith in
-      let (x, ys, b, split, one-read, rest-read) = all-first (λ j. rule p g) i (from (n - suc i) (suc i)) s (begin p a R i) (rw e at (h .rest)) in
+      let (x, ys, b, split, one-read, rest-read) = all-first (λ j. rule p g) i (from (n - suc i) (suc i)) s (begin p a R i)
+      (rw e at (h .rest)) in
       let some : i < length R = omega (arith, ap length split, length-drop i R) in
       let both : nth R i ∷ drop (suc i) R ≡ x ∷ ys = sym (drop-cons R i (one 0 0) some) ∙ split in
       let first : x ≡ nth R i = cc both in
@@ -117,7 +120,8 @@ module _ {p g n a next i : ℕ} {s : List ℕ} {R : List Rule} {walk : Walk} {pl
   within : begin p a R i ≤ next
   within = omega (arith, all-reads (λ j. rule-reads p g few) (from (n - i) i) .forwards (h .rest) .1 .ends)
 
-  left-more : {v : Walk} → next ≤ 16384 → v ≡ after (rule p g) s walk → {at : ℕ} → walk ≡ At at → Left p g n s a next R v (with-place places i at) (suc i)
+  left-more : {v : Walk} → next ≤ 16384 → v ≡ after (rule p g) s walk → {at : ℕ} → walk ≡ At at → Left p g n s a next R v
+      (with-place places i at) (suc i)
   unfolding after left-at with-place
   left-more {v} short ev {at} ea =
       let b = begin p a R i in
@@ -125,10 +129,12 @@ module _ {p g n a next i : ℕ} {s : List ℕ} {R : List Rule} {walk : Walk} {pl
       record {
         here = ev ∙ ap (after (rule p g) s) (h .here) ∙ ap left-at (reading .reads);
         rest = reading .others;
-        noted = λ k m r. rw (same-place, tests.le-leb b 16384 (omega (arith, within))) (go k m (rw (same-place, tests.le-leb b 16384 (omega (arith, within))) at r) (told (eqb k i)));
+        noted = λ k m r. rw (same-place, tests.le-leb b 16384 (omega (arith, within)))
+            (go k m (rw (same-place, tests.le-leb b 16384 (omega (arith, within))) at r) (told (eqb k i)));
       }
     where
-      go : (k : ℕ) → k < suc i → k < length (set places i (begin p a R i)) → Told (eqb k i) → getD (set places i (begin p a R i)) k 0 ≡ begin p a R k
+      go : (k : ℕ) → k < suc i → k < length (set places i (begin p a R i)) → Told (eqb k i) → getD
+          (set places i (begin p a R i)) k 0 ≡ begin p a R k
       go k m r (yea t) =
           let e : k ≡ i = same k i t in
           rw (e, getD-set-same places i (begin p a R i) 0 (omega (arith, e, length-set places i (begin p a R i))))
@@ -137,7 +143,8 @@ module _ {p g n a next i : ℕ} {s : List ℕ} {R : List Rule} {walk : Walk} {pl
           rw (getD-set-other places i k (begin p a R i) 0 d) (h .noted k (omega arith) (omega (arith, length-set places i (begin p a R i))))
 
 module _ {p g n i : ℕ} {s : List ℕ} {first walk : Walk} {old places : List ℕ} (h : Noting p g n s first walk old places i) where
-  pub noting-more : i < n → {v : Walk} {at : ℕ} {after-put : List ℕ} → walk ≡ At at → after-put ≡ with-place places i at → v ≡ after (rule p g) s (At at)
+  pub noting-more : i < n → {v : Walk} {at : ℕ} {after-put : List ℕ} → walk ≡ At at → after-put ≡ with-place places i at → v ≡ after
+      (rule p g) s (At at)
       → Noting p g n s first v old after-put (i + 1)
   noting-more l {v} {at} ea ep ev =
       let e : v ≡ after (rule p g) s walk = rw ea ev in
@@ -149,7 +156,10 @@ module _ {p g n i : ℕ} {s : List ℕ} {first walk : Walk} {old places : List �
 
   -- where the walk has stopped there is nothing to note, and after the last rule all is noted
   pub noting-stopped : {k : ℕ} → walk ≡ Bad k → Begins p g n s first places
-  noting-stopped e = record { noted = λ f r few short. absurd (let z : _≡_ {A = ℕ} 0 1 = cc (sym e ∙ h .left f r few short .here) in omega arith) }
+  noting-stopped e = record {
+    noted = λ f r few short.
+        absurd (let z : _≡_ {A = ℕ} 0 1 = cc (sym e ∙ h .left f r few short .here) in omega arith);
+  }
 
   pub noting-all : n ≤ i → Begins p g n s first places
   noting-all l = record {
@@ -159,12 +169,14 @@ module _ {p g n i : ℕ} {s : List ℕ} {first walk : Walk} {old places : List �
 -- ---- a whole sheet
 
 -- a part that is there leads a walk on to its end
-on-part : {A : Type 0} {r : Reader A} {words : A → List ℕ} {In : A → Type 0} {s : List ℕ} {a b : ℕ} {x : A} → Reads r words In → In x → WordsAt s a b (words x)
+on-part : {A : Type 0} {r : Reader A} {words : A → List ℕ} {In : A → Type 0} {s : List ℕ} {a b : ℕ} {x : A} → Reads r words In → In x →
+    WordsAt s a b (words x)
     → {w v : Walk} → w ≡ At a → v ≡ after r s w → v ≡ At b
 unfolding after left-at
 on-part {r = r} {s = s} h i k ew ev = ev ∙ ap (after r s) ew ∙ ap left-at (h .backwards i k)
 
-on-word : (s : List ℕ) {a b : ℕ} (i : ℕ) → (a ≤ getD s i 0) × (getD s i 0 ≤ b) → i < length s → {w v : Walk} → w ≡ At i → v ≡ after (word (between a b)) s w
+on-word : (s : List ℕ) {a b : ℕ} (i : ℕ) → (a ≤ getD s i 0) × (getD s i 0 ≤ b) → i < length s → {w v : Walk} → w ≡ At i → v ≡ after
+    (word (between a b)) s w
     → v ≡ At (i + 1)
 on-word s {a} {b} i h l = on-part (between-reads a b) h (span-word l)
 
@@ -173,7 +185,8 @@ unfolding word-at
 word-of s ew ex = ex ∙ ap (word-at s) ew
 
 -- before its rules a sheet that passes has its edition, its numbers of states, tags and rules, and its final states
-module _ {s : List ℕ} (ok : Passes s) {edition sized finals tags first : Walk} {p g n : ℕ} (e₁ : edition ≡ after (word (between 1 1)) s (At 0))
+module _ {s : List ℕ} (ok : Passes s) {edition sized finals tags first : Walk} {p g n : ℕ}
+    (e₁ : edition ≡ after (word (between 1 1)) s (At 0))
     (ep : p ≡ word-at s edition) (e₂ : sized ≡ after (word (between 1 64)) s edition) (e₃ : finals ≡ after (set-below p) s sized)
     (eg : g ≡ word-at s finals) (e₄ : tags ≡ after (word (between 1 64)) s finals) (en : n ≡ word-at s tags)
     (e₅ : first ≡ after (word (between 0 1024)) s tags) where
@@ -186,7 +199,8 @@ module _ {s : List ℕ} (ok : Passes s) {edition sized finals tags first : Walk}
   past-states : sized ≡ At 2
   past-states =
       let r = in-range ok in
-      on-word s 1 (omega (arith, states-word ok, r .some-states), omega (arith, states-word ok, r .few-states)) (omega (arith, few-words ok .0)) past-edition e₂
+      on-word s 1 (omega (arith, states-word ok, r .some-states), omega (arith, states-word ok, r .few-states))
+      (omega (arith, few-words ok .0)) past-edition e₂
 
   past-final : finals ≡ At 4
   past-final = on-part (set-reads (sheet-in s .states)) (in-range ok .final) (final-there ok) past-states (rw states at e₃)
@@ -194,10 +208,12 @@ module _ {s : List ℕ} (ok : Passes s) {edition sized finals tags first : Walk}
   past-tags : tags ≡ At 5
   past-tags =
       let r = in-range ok in
-      on-word s 4 (omega (arith, tags-word ok, r .some-tags), omega (arith, tags-word ok, r .few-tags)) (omega (arith, few-words ok .0)) past-final e₄
+      on-word s 4 (omega (arith, tags-word ok, r .some-tags), omega (arith, tags-word ok, r .few-tags))
+      (omega (arith, few-words ok .0)) past-final e₄
 
   past-number : first ≡ At 6
-  past-number = on-word s 5 (omega arith, omega (arith, rules-word ok, in-range ok .few-rules)) (omega (arith, few-words ok .0)) past-tags e₅
+  past-number = on-word s 5 (omega arith, omega (arith, rules-word ok, in-range ok .few-rules))
+      (omega (arith, few-words ok .0)) past-tags e₅
 
   -- so the table has where its rules begin
   pub whole-noted : {places : List ℕ} → Begins p g n s first places → BeginsOf (sheet-in s .states) 6 (rules-in s) places
@@ -205,5 +221,6 @@ module _ {s : List ℕ} (ok : Passes s) {edition sized finals tags first : Walk}
       let r = in-range ok in
       let g-is : g ≡ sheet-in s .tags = word-of s past-final eg ∙ tags-word ok in
       let n-is : n ≡ length (rules-in s) = word-of s past-tags en ∙ rules-word ok in
-      let read = repeated (rule-reads (sheet-in s .states) (sheet-in s .tags) (r .few-states)) (length (rules-in s)) .backwards (refl, r .rules) (rules-there ok) in
+      let read = repeated (rule-reads (sheet-in s .states) (sheet-in s .tags) (r .few-states)) (length (rules-in s)) .backwards
+      (refl, r .rules) (rules-there ok) in
       (rw (states, g-is, n-is) at h) .noted past-number read (r .few-states) (few-words ok .1)

@@ -94,10 +94,12 @@ marks-got : (s : List ℕ) (p i b : ℕ) (l : List ℕ) → set-below p s i ≡ 
 unfolding set-below after left-at word word-at
 marks-got s p i b l e =
     let ((low, high), (h, k), el, at) =
-    then-makes (below-reads (2 ^ min p 32)) (λ low _. given (below-reads (2 ^ (p - 32))) (λ high. members p (low + high * W))) .forwards e in
+    then-makes (below-reads (2 ^ min p 32))
+    (λ low _. given (below-reads (2 ^ (p - 32))) (λ high. members p (low + high * W))) .forwards e in
     let words : 2 ^ min p 32 ≤ W = pow-mono {i = min p 32} {j = 32} (omega arith) in
     ap length (sym el)
-    ∙ rw (tests.lt-ltb i (length s) (word-there at), word-here at, tests.lt-ltb low W (omega arith), word-here (word-next at)) (set-size p low high h k)
+    ∙ rw (tests.lt-ltb i (length s) (word-there at), word-here at, tests.lt-ltb low W (omega arith), word-here (word-next at))
+    (set-size p low high h k)
 
 -- a sum is its marks and a coefficient for each member of their set
 pub then-sum : (p : ℕ) (s : List ℕ) (w : Walk) {low high n : ℕ} {past set v : Walk} → low < W → high < W → low ≡ word-at s w

@@ -93,7 +93,8 @@ then-word s w ok f {u} {v} {x} ex eu ev =
     value i n a false e = cc
 
 -- after the last part
-pub then-last : {A B : Type 0} (s : List ℕ) (w : Walk) (r : Reader A) (g : A → B) {v : Walk} → v ≡ after r s w → v ≡ after (r >>= λ a. give (g a)) s w
+pub then-last : {A B : Type 0} (s : List ℕ) (w : Walk) (r : Reader A) (g : A → B) {v : Walk} → v ≡ after r s w → v ≡ after
+    (r >>= λ a. give (g a)) s w
 unfolding after left-at then
 then-last {A} s w r g e = e ∙ by w
   where

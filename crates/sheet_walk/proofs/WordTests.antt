@@ -31,7 +31,8 @@ shifted w k = go (told (ltb w (2 ^ k)))
         eqb-yes e ∙ sym t
     go (nay t) =
         let h : 2 ^ k ≤ w = tests.ltb-false w (2 ^ k) t in
-        eqb-false (λ (e : w / 2 ^ k ≡ 0). let l : w < 1 * 2 ^ k = div-lt-iff-lt-mul (pow-pos k) .0 (omega arith) in omega (arith, one-mul (2 ^ k))) ∙ sym t
+        eqb-false (λ (e : w / 2 ^ k ≡ 0). let l : w < 1 * 2 ^ k = div-lt-iff-lt-mul (pow-pos k) .0
+        (omega arith) in omega (arith, one-mul (2 ^ k))) ∙ sym t
 
 -- any word
 pub any : (s : List ℕ) → ((i : ℕ) → getD s i 0 < W) → (w : Walk) → true ≡ below W (word-at s w)
@@ -48,7 +49,8 @@ coefficient-test w h = go (told (ltb w (2 ^ 31)))
     low (yea t) = let l = tests.leb-true 4294934528 w t in t ∙ sym (tests.lt-ltb (W - 1 - w) 32768 (omega arith))
     low (nay t) = let l = tests.leb-false 4294934528 w t in t ∙ sym (tests.le-ltb (W - 1 - w) 32768 (omega arith))
 
-    go : Told (ltb w (2 ^ 31)) → (leb 1 w && leb w 32767) || leb 4294934528 w ≡ ltb w W && small (cond (ltb w (2 ^ 31)) (pos w) (negsuc (W - 1 - w)))
+    go : Told (ltb w (2 ^ 31)) → (leb 1 w && leb w 32767) || leb 4294934528 w ≡ ltb w W && small
+        (cond (ltb w (2 ^ 31)) (pos w) (negsuc (W - 1 - w)))
     go (yea t) =
         let l = tests.ltb-true w (2 ^ 31) t in
         rw (tests.lt-ltb w W h, t, tests.lt-leb 4294934528 w (omega arith)) (or-false (leb 1 w && leb w 32767))

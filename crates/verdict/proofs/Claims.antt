@@ -33,17 +33,21 @@ pub promised : (κs : _) (a : _) (r : ℕ) (x : _) → reads.Post κs a r x
 promised κs a r x (count, (buffer, within)) = record { count = count; buffer = buffer }
 
 -- The fronts that are read have the line of the whole files, however long these are.
-pub whole : (list file s : List ℕ) → formcheck-line (take names-bytes list) (take sheet-bytes file) (take form-bytes s) ≡ formcheck-line list file s
+pub whole : (list file s : List ℕ) → formcheck-line (take names-bytes list) (take sheet-bytes file)
+    (take form-bytes s) ≡ formcheck-line list file s
 unfolding formcheck-line
-whole list file s = ap line-of (formcheck-cut list file s {n = names-bytes} {q = 16385} {k = form-bytes} (omega arith) (omega arith) (omega arith))
+whole list file s = ap line-of (formcheck-cut list file s {n = names-bytes} {q = 16385} {k = form-bytes} (omega arith) (omega arith)
+    (omega arith))
 
 -- So `line`, lent these fronts, leaves the line of the files in its first r bytes, and what stood behind them.
-module _ (list file s : List ℕ) {out left : List ℕ} {r : ℕ} (promise : Promised (take names-bytes list) (take sheet-bytes file) (take form-bytes s) out r left) where
+module _ (list file s : List ℕ) {out left : List ℕ} {r : ℕ}
+    (promise : Promised (take names-bytes list) (take sheet-bytes file) (take form-bytes s) out r left) where
   pub line-left : take r left ≡ formcheck-line list file s
   line-left = ap (take r) (promise .buffer) ∙ take-at _ (drop r out) r (sym (promise .count)) ∙ whole list file s
 
   pub past-left : drop r left ≡ drop r out
-  past-left = ap (drop r) (promise .buffer) ∙ drop-at (formcheck-line (take names-bytes list) (take sheet-bytes file) (take form-bytes s)) (drop r out) r (sym (promise .count))
+  past-left = ap (drop r) (promise .buffer) ∙ drop-at (formcheck-line (take names-bytes list) (take sheet-bytes file) (take form-bytes s))
+      (drop r out) r (sym (promise .count))
 
   -- That is the line of an answer exactly when formcheck says it of the files …
   pub says : (x : Said) → (take r left ≡ line-of x) ↔ (formcheck list file s ≡ x)
@@ -51,6 +55,9 @@ module _ (list file s : List ℕ) {out left : List ℕ} {r : ℕ} (promise : Pro
   says x = (λ h. line-tells (formcheck list file s) x (sym line-left ∙ h), λ h. line-left ∙ ap line-of h)
 
   -- … so it says accepted exactly when the files present a sheet and a form that the sheet accepts.
-  pub accepts : ((q m : ℕ) × (take r left ≡ line-of (accepted q m))) ↔ ((t : Sheet) × (e : Element) × Presents list file s t e × Accepts t e)
-  accepts =
-      (λ x. let (q, m, h) = x in model.accepts list file s .0 (q, m, says (accepted q m) .0 h), λ x. let (q, m, h) = model.accepts list file s .1 x in (q, m, says (accepted q m) .1 h))
+  pub accepts : ((q m : ℕ) × (take r left ≡ line-of (accepted q m))) ↔
+      ((t : Sheet) × (e : Element) × Presents list file s t e × Accepts t e)
+  accepts = (
+    λ x. let (q, m, h) = x in model.accepts list file s .0 (q, m, says (accepted q m) .0 h),
+    λ x. let (q, m, h) = model.accepts list file s .1 x in (q, m, says (accepted q m) .1 h),
+  )

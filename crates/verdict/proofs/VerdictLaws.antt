@@ -15,7 +15,8 @@ use Rattle.model.specs.Tree.{Document, sizeD, words, wordsD}
 use Rattle.model.specs.Sheet.{Sheet, sheet-of, sheet-words, set-words, file-words}
 use Rattle.model.specs.Names.{names-of}
 use Rattle.model.specs.Text.{form-of}
-use Rattle.model.specs.Calls.{names-said, read, read-said, read-tree, from-file, from-file-said, from-file-sheet, verdict-of, judge-said, formcheck}
+use Rattle.model.specs.Calls.{names-said, read, read-said, read-tree, from-file, from-file-said, from-file-sheet, verdict-of, judge-said}
+use Rattle.model.specs.Calls.{formcheck}
 use Rattle.model.proofs.CheckLaws.{refuses≢passes, passes-inj, bind-inv, bind-passes, then-inv, then-passes}
 use Rattle.model.proofs.SheetCode.{sheet-passes}
 use Rattle.model.proofs.ReadGood.{read-good}
@@ -34,7 +35,8 @@ first-refuses (passes a) f h e = let (b, p) = h a refl in absurd (refuses≢pass
 first-refuses (refuses m j) f h e = cc
 
 -- the words of a file, where the buffer has room for any sheet
-file-refused : (file : List ℕ) {n i : ℕ} (room : ℕ) → 16384 ≤ room → from-file file room ≡ refuses n i → sheet-of (file-words file) ≡ refuses n i
+file-refused : (file : List ℕ) {n i : ℕ} (room : ℕ) → 16384 ≤ room → from-file file room ≡ refuses n i → sheet-of
+    (file-words file) ≡ refuses n i
 unfolding from-file
 file-refused file room large e =
     first-refuses (sheet-of (file-words file)) _
@@ -52,7 +54,8 @@ module _ (list s : List ℕ) {g : ℕ} (names : names-of list ≡ passes g) wher
   read-refused : {n i : ℕ} (room : ℕ) → 16384 ≤ room → read list s room ≡ refuses n i → form-of list s ≡ refuses n i
   unfolding read
   read-refused room large e =
-      first-refuses (form-of list s) _ (λ d p. (d, then-passes _ (room-passes (4 * sizeD d) room (omega (arith, few-nodes p))))) (sym (bind-passes _ names) ∙ e)
+      first-refuses (form-of list s) _ (λ d p. (d, then-passes _ (room-passes (4 * sizeD d) room (omega (arith, few-nodes p)))))
+      (sym (bind-passes _ names) ∙ e)
 
   read-inv : (room : ℕ) {d : Document} → read list s room ≡ passes d → form-of list s ≡ passes d
   unfolding read
@@ -102,7 +105,8 @@ pub record SheetIn (file buffer : List ℕ) (n : ℕ) : Type 0 where
   pub few : n ≤ 16384
   pub passes-there : Passes (take n buffer)
 
-pub sheet-counted : (file buffer : List ℕ) {after : List ℕ} {r : Answer} {n : ℕ} → (said r ≡ from-file-said file buffer) × (after ≡ from-file-sheet file buffer) → r ≡ Count n
+pub sheet-counted : (file buffer : List ℕ) {after : List ℕ} {r : Answer} {n : ℕ} → (said r ≡ from-file-said file buffer) ×
+    (after ≡ from-file-sheet file buffer) → r ≡ Count n
     → SheetIn file after n
 unfolding from-file-said from-file-sheet from-file buffer-after passed
 sheet-counted file buffer {after} {n = n} (e, ea) c =
@@ -136,7 +140,8 @@ pub record TreeIn (list s buffer : List ℕ) (n : ℕ) : Type 0 where
   pub front : take (n * 4) buffer ≡ wordsD document
 
 module _ (list s : List ℕ) {g : ℕ} (names : names-of list ≡ passes g) where
-  pub tree-counted : (tree : List ℕ) {after : List ℕ} {r : Answer} {n : ℕ} → (said r ≡ read-said list s tree) × (after ≡ read-tree list s tree) → r ≡ Count n → TreeIn list s after n
+  pub tree-counted : (tree : List ℕ) {after : List ℕ} {r : Answer} {n : ℕ} → (said r ≡ read-said list s tree) ×
+      (after ≡ read-tree list s tree) → r ≡ Count n → TreeIn list s after n
   tree-counted tree {after} {n = n} (e, ea) c =
       let (d, p, nodes, front) = answered.read-counted list s tree e ea c in
       let reads = read-inv list s names (length tree) p in
@@ -147,7 +152,8 @@ module _ (list s : List ℕ) {g : ℕ} (names : names-of list ≡ passes g) wher
     as-sheet : sheet-of (file-words file) ≡ passes (sheet-in sheet)
     as-sheet = ap sheet-of from ∙ ok .as-sheet
 
-    pub text-refused : (tree : List ℕ) → 16384 ≤ length tree → {r : Answer} {x : Refusal} → said r ≡ read-said list s tree → r ≡ Error x → said-refusal x ≡ formcheck list file s
+    pub text-refused : (tree : List ℕ) → 16384 ≤ length tree → {r : Answer} {x : Refusal} → said r ≡ read-said list s tree → r ≡ Error x →
+        said-refusal x ≡ formcheck list file s
     unfolding read-said
     text-refused tree large e c =
         let (n, i, p, f) = answered.refused sizeD (read list s (length tree)) e c in
@@ -161,9 +167,11 @@ module _ (list s : List ℕ) {g : ℕ} (names : names-of list ≡ passes g) wher
       pub tags-differ : g ≢ tags → refusal 20 tags ≡ formcheck list file s
       tags-differ h = rw counted (at-tags list file s names as-sheet (t .reads) (rw counted at h))
 
-      pub form-judged : g ≡ tags → (states : List ℕ) → 4096 ≤ length states → judge-said sheet (take (n * 4) after) states ≡ formcheck list file s
+      pub form-judged : g ≡ tags → (states : List ℕ) → 4096 ≤ length states → judge-said sheet
+          (take (n * 4) after) states ≡ formcheck list file s
       form-judged h states large =
           let (e, one, over, _, _) = read-good list s g (t .document) names (t .reads) in
-          let presents : Presents list file s (sheet-in sheet) e = record { names = names ∙ ap passes (h ∙ counted); sheet = as-sheet; form = t .reads ∙ ap passes one } in
+          let presents : Presents list file s
+          (sheet-in sheet) e = record { names = names ∙ ap passes (h ∙ counted); sheet = as-sheet; form = t .reads ∙ ap passes one } in
           let words-are : take (n * 4) after ≡ words e = t .front ∙ ap wordsD one ∙ one-words e in
           rw (words-are, ← from) (sym (judged presents states (omega (arith, over .few))))

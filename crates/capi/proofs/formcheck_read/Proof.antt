@@ -13,4 +13,5 @@ formcheck-read-spec =
     (λ c κs. search needs)
     (λ c. search needs)
     (λ c. search needs)
-    (λ c. handed-with (c .before .before .before .before .of-answer .ensures) (c .before .before .before .before .before .before .before .read .ensures) _ (c .before .before .hand-over .ensures)))
+    (λ c. handed-with (c .before .before .before .before .of-answer .ensures)
+    (c .before .before .before .before .before .before .before .read .ensures) _ (c .before .before .hand-over .ensures)))

@@ -13,4 +13,5 @@ formcheck-sheet-from-file-spec =
     (λ c κs. search needs)
     (λ c. search needs)
     (λ c. search needs)
-    (λ c. handed-with (c .before .before .before .before .of-answer .ensures) (c .before .before .before .before .before .before .before .from-file .ensures) _ (c .before .before .hand-over .ensures)))
+    (λ c. handed-with (c .before .before .before .before .of-answer .ensures)
+    (c .before .before .before .before .before .before .before .from-file .ensures) _ (c .before .before .hand-over .ensures)))

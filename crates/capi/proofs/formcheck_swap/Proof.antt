@@ -13,4 +13,5 @@ formcheck-swap-spec =
     (λ c κs. search needs)
     (λ c. search needs)
     (λ c. search needs)
-    (λ c. handed-with (c .before .before .before .before .of-answer .ensures) (c .before .before .before .before .before .before .before .swap .ensures) _ (c .before .before .hand-over .ensures)))
+    (λ c. handed-with (c .before .before .before .before .of-answer .ensures)
+    (c .before .before .before .before .before .before .before .swap .ensures) _ (c .before .before .hand-over .ensures)))

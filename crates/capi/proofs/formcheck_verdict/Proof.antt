@@ -12,4 +12,5 @@ formcheck-verdict-spec =
     (λ c κs. search needs)
     (λ c κs. search needs)
     (λ c. search needs)
-    (λ c. handed (c .before .before .before .before .of-judgement .ensures) (c .before .before .before .before .before .check .ensures) _ (c .before .before .hand-over .ensures)))
+    (λ c. handed (c .before .before .before .before .of-judgement .ensures) (c .before .before .before .before .before .check .ensures) _
+    (c .before .before .hand-over .ensures)))

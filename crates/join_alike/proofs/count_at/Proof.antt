@@ -13,7 +13,12 @@ count-at-spec =
     (λ c. omega (arith, spot-there (c .before .before .before .pre)))
     (λ c. omega (arith, spot-there (c .before .before .before .pre)))
     (λ c κs. search needs)
-    (λ c. omega (arith, order-end (c .before .before .before .before .pre) (c .before .before .with-order .ensures) (c .before .if1 .taken) (c .order-length .ensures) .1))
-    (λ c. order-end (c .before .before .before .before .pre) (c .before .before .with-order .ensures) (c .before .if1 .taken) (c .order-length .ensures) .0)
+    (λ c. omega (
+      arith,
+      order-end (c .before .before .before .before .pre) (c .before .before .with-order .ensures) (c .before .if1 .taken)
+          (c .order-length .ensures) .1,
+    ))
+    (λ c. order-end (c .before .before .before .before .pre) (c .before .before .with-order .ensures) (c .before .if1 .taken)
+    (c .order-length .ensures) .0)
     (λ c. omega (arith, spot-there (c .before .before .before .pre)))
     (λ c. no-order-end (c .before .before .before .pre) (c .before .with-order .ensures) (c .if1 .left)))

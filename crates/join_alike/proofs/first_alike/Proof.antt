@@ -15,5 +15,7 @@ first-alike-spec =
     (λ c κs. search needs)
     (λ c.
     let start = c .before .before .before .before .before .before .before in
-    let key = key-here (start .pre) (c .before .before .before .before .at .ensures) (c .before .before .before .field .ensures) (c .before .before .key-of .ensures .0) in
-    first-here _ (start .args .index .now) (start .args .x) key (c .before .before .key-of .ensures .1) (c .before .at2 .ensures) (c .wide .ensures)))
+    let key = key-here (start .pre) (c .before .before .before .before .at .ensures) (c .before .before .before .field .ensures)
+    (c .before .before .key-of .ensures .0) in
+    first-here _ (start .args .index .now) (start .args .x) key (c .before .before .key-of .ensures .1) (c .before .at2 .ensures)
+    (c .wide .ensures)))

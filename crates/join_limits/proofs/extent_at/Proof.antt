@@ -13,8 +13,11 @@ extent-at-spec =
     (λ c κs. search needs)
     (λ c κs. search needs)
     (λ c.
-    let is = extent-ordered (c .before .before .before .before .before .before .pre) (c .before .before .before .with-order .ensures) (c .before .before .before .before .steps-at .ensures) (c .before .before .if1 .taken) (c .before .field .ensures) (c .field2 .ensures) in
+    let is = extent-ordered (c .before .before .before .before .before .before .pre) (c .before .before .before .with-order .ensures)
+    (c .before .before .before .before .steps-at .ensures) (c .before .before .if1 .taken) (c .before .field .ensures)
+    (c .field2 .ensures) in
     (is, small _ _ _ (c .before .before .before .before .before .before .pre .begins .ranges) is))
     (λ c.
-    let is = extent-unordered (c .before .before .before .before .pre) (c .before .with-order .ensures) (c .before .before .steps-at .ensures) (c .if1 .left) in
+    let is = extent-unordered (c .before .before .before .before .pre) (c .before .with-order .ensures)
+    (c .before .before .steps-at .ensures) (c .if1 .left) in
     (is, small _ _ _ (c .before .before .before .before .pre .begins .ranges) is)))

@@ -9,8 +9,11 @@ pub joint-steps-spec : {M : Type 1} → statement M
 joint-steps-spec =
     tie.close
     (tie.spec
-    (λ c. let a = (c .before .before .args) in second-alone (a .x .steps) (a .y .steps) (a .x .steps) (a .y .steps) (a .x .steps + a .y .steps + 1) (c .if1 .taken))
-    (λ c. let a = (c .before .before .before .before .args) in first-alone (a .x .steps) (a .y .steps) (a .x .steps) (a .y .steps) (a .x .steps + a .y .steps + 1) (c .before .before .if1 .left) (c .if2 .taken))
+    (λ c. let a = (c .before .before .args) in second-alone (a .x .steps) (a .y .steps) (a .x .steps) (a .y .steps)
+    (a .x .steps + a .y .steps + 1) (c .if1 .taken))
+    (λ c. let a = (c .before .before .before .before .args) in first-alone (a .x .steps) (a .y .steps) (a .x .steps) (a .y .steps)
+    (a .x .steps + a .y .steps + 1) (c .before .before .if1 .left) (c .if2 .taken))
     (λ c. let (x, y) = (c .before .before .before .before .before .before .pre) in omega (arith, x .steps, y .steps))
     (λ c. let (x, y) = (c .before .before .before .before .before .before .pre) in omega (arith, x .steps, y .steps))
-    (λ c. let a = (c .before .before .before .before .before .before .args) in both-there (a .x .steps) (a .y .steps) (a .x .steps) (a .y .steps) (a .x .steps + a .y .steps + 1) (c .before .before .before .before .if1 .left) (c .before .before .if2 .left)))
+    (λ c. let a = (c .before .before .before .before .before .before .args) in both-there (a .x .steps) (a .y .steps) (a .x .steps)
+    (a .y .steps) (a .x .steps + a .y .steps + 1) (c .before .before .before .before .if1 .left) (c .before .before .if2 .left)))

@@ -28,16 +28,23 @@ tally-row-spec =
     (λ c κs. search needs)
     (λ c.
     let n = c .before .before .before .sizes-of in
-    let (walk, all) = row-begun (c .before .before .before .before .before .before .before .pre) (n .result) (n .ensures .0) (n .ensures .1) (c .before .before .at .ensures) (c .before .wide .ensures) (c .first-alike .ensures .0) (c .first-alike .ensures .1) in
+    let (walk, all) = row-begun (c .before .before .before .before .before .before .before .pre) (n .result) (n .ensures .0) (n .ensures .1)
+    (c .before .before .at .ensures) (c .before .wide .ensures) (c .first-alike .ensures .0) (c .first-alike .ensures .1) in
     (walk, tally-begun all))
     (λ c κs. search needs)
     (λ c κs. row-alike (c .before .before .loop .inv .0) (c .before .loop-test .taken) (c .spot-of .ensures))
-    (λ c κs. pair-room (c .before .before .before .loop .inv .0 .row) _ _ (c .before .before .before .loop .inv .1) (c .tally-pair .ensures))
+    (λ c κs. pair-room (c .before .before .before .loop .inv .0 .row) _ _ (c .before .before .before .loop .inv .1)
+    (c .tally-pair .ensures))
     (λ c κs. search needs)
     (λ c.
-    let (_, _, later) = row-next (c .before .before .before .before .before .loop .inv .0) (c .before .before .before .before .loop-test .taken) (c .before .before .before .spot-of .ensures) (c .next-alike .ensures) in
+    let (_, _, later) = row-next (c .before .before .before .before .before .loop .inv .0)
+    (c .before .before .before .before .loop-test .taken) (c .before .before .before .spot-of .ensures) (c .next-alike .ensures) in
     omega (arith, later, c .before .before .before .before .loop-test .taken))
     (λ c.
-    let (walk, next, later) = row-next (c .before .before .before .before .before .loop .inv .0) (c .before .before .before .before .loop-test .taken) (c .before .before .before .spot-of .ensures) (c .next-alike .ensures) in
-    (walk, tally-more (c .before .before .before .before .before .loop .inv .1) next (c .before .before .tally-pair .ensures) (c .before .with-more .ensures .0) (c .before .with-more .ensures .1)))
+    let (walk, next, later) = row-next (c .before .before .before .before .before .loop .inv .0)
+    (c .before .before .before .before .loop-test .taken) (c .before .before .before .spot-of .ensures) (c .next-alike .ensures) in (
+      walk,
+      tally-more (c .before .before .before .before .before .loop .inv .1) next (c .before .before .tally-pair .ensures)
+          (c .before .with-more .ensures .0) (c .before .with-more .ensures .1),
+    ))
     (λ c. tally-done (c .before .loop .inv .1) (row-done (c .before .loop .inv .0) (c .loop-test .left))))

@@ -14,7 +14,8 @@ abbrev μ-loop : tie.MeasureT-loop
 μ-loop words counts₀ i₀ counts i = length words - i
 
 -- the word in hand is a state's
-word-known : (c : tie.After-shared-slice-known Inv-loop μ-loop) → let w = getD (c .before .before .before .args .words .now) (c .before .before .loop .i) 0 in (1 ≤ w) × (w ≤ 64)
+word-known : (c : tie.After-shared-slice-known Inv-loop μ-loop) → let w = getD (c .before .before .before .args .words .now)
+    (c .before .before .loop .i) 0 in (1 ≤ w) × (w ≤ 64)
 word-known c = c .before .before .before .pre .0 .each _ (c .before .loop-test .taken)
 
 pub occurrences-spec : {M : Type 1} → statement M
@@ -30,7 +31,11 @@ occurrences-spec =
     (λ c. omega (arith, word-known c .1))
     (λ c. omega (arith, word-known c .1))
     (λ c. omega (arith, word-known c .1))
-    (λ c. omega (arith, count-small (c .before .before .before .loop .inv) (c .before .before .loop-test .taken) (c .before .before .before .before .pre .0 .few)))
+    (λ c. omega (
+      arith,
+      count-small (c .before .before .before .loop .inv) (c .before .before .loop-test .taken)
+          (c .before .before .before .before .pre .0 .few),
+    ))
     (λ c. omega (arith, word-known (c .before) .1))
     (λ c. omega (arith, word-known (c .before) .1))
     (λ c. omega arith)

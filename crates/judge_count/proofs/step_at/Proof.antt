@@ -43,8 +43,10 @@ step-at-spec =
     (λ c earlier t. c .at-most .ensures earlier)
     (λ c earlier t. c .remainder .ensures earlier)
     (λ c earlier t h w o. not-found t w (c .truth-at .ensures) (said 3 (c .before .match .keys3) h))
-    (λ c earlier t h w o. pair-found t w _&&_ (c .before .truth-at2 .ensures) (c .truth-at3 .ensures) (said 4 (c .before .before .match .keys4) h))
-    (λ c earlier t h w o. pair-found t w _||_ (c .before .truth-at4 .ensures) (c .truth-at5 .ensures) (said 5 (c .before .before .match .keys5) h))
+    (λ c earlier t h w o. pair-found t w _&&_ (c .before .truth-at2 .ensures) (c .truth-at3 .ensures)
+    (said 4 (c .before .before .match .keys4) h))
+    (λ c earlier t h w o. pair-found t w _||_ (c .before .truth-at4 .ensures) (c .truth-at5 .ensures)
+    (said 5 (c .before .before .match .keys5) h))
     (λ c earlier t h w o.
     let r = c .match .rest in
     absurd (no-kind _ _ _ _ _ (said _ refl h) (r .0 .0 .0 .0 .1) (r .0 .0 .0 .1) (r .0 .0 .1) (r .0 .1) (r .1))))

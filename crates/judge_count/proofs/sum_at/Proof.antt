@@ -27,7 +27,8 @@ place c =
     term-place (loop .loop .inv) (c .before .loop-test .taken) (start .pre .0) (start .pre .1)
 
 -- the coefficient in hand, as the machine has it
-times-is : (c : tie.After-signed Inv-loop μ-loop) → let loop = c .before .before .before .before in let start = loop .before .before .before .before .before in
+times-is : (c : tie.After-signed Inv-loop μ-loop) → let loop = c .before .before .before .before in let start =
+    loop .before .before .before .before .before in
     toZ w32 (ofZ w32 (c .signed .result)) ≡ signed (getD (start .args .part .now) (loop .loop .at) 0)
 times-is c = toZ-ofZ (record { sfits = c .signed .ok }) ∙ c .signed .ensures
 
@@ -56,7 +57,8 @@ sum-at-spec =
     let here = c .before .before .before in
     let loop = here .before .before in
     let start = loop .before .before .before .before .before in
-    term-room (loop .loop .inv) (here .before .loop-test .taken) (here .lowest .ensures) (times-is (c .before)) (start .pre .0) (start .pre .1))
+    term-room (loop .loop .inv) (here .before .loop-test .taken) (here .lowest .ensures) (times-is (c .before)) (start .pre .0)
+    (start .pre .1))
     (λ c. omega (arith, place (c .before .before .before .before) .0))
     (λ c κs. search needs)
     (λ c.
@@ -65,6 +67,7 @@ sum-at-spec =
     (λ c.
     let here = c .before .before .before .before .before in
     let sum = toZ-ofZ (record { sfits = c .before .plus-times .ok }) ∙ c .before .plus-times .ensures in
-    one-term (here .before .before .loop .inv) (here .before .loop-test .taken) (here .lowest .ensures) (times-is (c .before .before .before)) sum
+    one-term (here .before .before .loop .inv) (here .before .loop-test .taken) (here .lowest .ensures)
+    (times-is (c .before .before .before)) sum
     (c .without-lowest .ensures) (c .without-lowest .ok))
     (λ c. all-terms (c .before .loop .inv) (c .loop-test .left)))

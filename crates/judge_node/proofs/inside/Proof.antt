@@ -2,7 +2,8 @@
 use mathlib.Core.Path.{sym}
 use borrow.Author.Needs.{needs}
 use lib.Seq.{length-take-le}
-use Rattle.judge_node.proofs.InsideLaws.{end-within, end-fits, leaf-inside, child-there, child-room, child-small, child-fits, lone-inside}
+use Rattle.judge_node.proofs.InsideLaws.{end-within, end-fits, leaf-inside, child-there, child-room, child-small, child-fits}
+use Rattle.judge_node.proofs.InsideLaws.{lone-inside}
 use Rattle.judge_node.proofs.InsideLaws.{stateless-inside, gathered-within, gathered-words, several-inside}
 use Rattle.judge_node.proofs.inside.Statement.{statement}
 use Rattle.judge_node.proofs.inside.Tie as tie
@@ -35,7 +36,8 @@ inside-spec =
     let whole = sizes .before .before .before in
     let start = whole .before .before .before .before .before .before in
     let words =
-    gathered-words (start .pre) (whole .size-at .ensures) _ (got .gather .ensures) (told .n .given .1) (sizes .before .before .if1 .left) (sizes .before .size-at2 .ensures) (sizes .if2 .left) in
+    gathered-words (start .pre) (whole .size-at .ensures) _ (got .gather .ensures) (told .n .given .1) (sizes .before .before .if1 .left)
+    (sizes .before .size-at2 .ensures) (sizes .if2 .left) in
     ((start .pre .indexed, start .pre .rules), words))
     (λ c. search needs)
     (λ c. search (several-inside, needs)))

@@ -29,4 +29,5 @@ judge-nodes-spec =
     (λ c. search needs)
     (λ c. two-said _ _ _ _ (c .before .before .before .before .before .before .run .ensures) (c .before .i .given .1))
     (λ c. search needs)
-    (λ c. all-said _ _ _ _ (c .before .before .before .before .before .before .before .before .run .ensures) (c .before .before .before .looks .given .1) (c .verdict .ensures)))
+    (λ c. all-said _ _ _ _ (c .before .before .before .before .before .before .before .before .run .ensures)
+    (c .before .before .before .looks .given .1) (c .verdict .ensures)))

@@ -5,7 +5,8 @@ use borrow.Author.Needs.{needs}
 use lib.ListN.{length, replicate}
 use Rattle.model.specs.Index.{rules-in}
 use Rattle.judge_rules.proofs.ContentLaws.{no-words, nothing-found}
-use Rattle.judge_run.proofs.RunLaws.{Running, running-none, running-all, running-room, running-judging, running-two, looks-fit, running-more}
+use Rattle.judge_run.proofs.RunLaws.{Running, running-none, running-all, running-room, running-judging, running-two, looks-fit}
+use Rattle.judge_run.proofs.RunLaws.{running-more}
 use Rattle.judge_run.proofs.run.Statement.{statement}
 use Rattle.judge_run.proofs.run.Tie as tie
 
@@ -49,7 +50,8 @@ run-spec =
     let start = loop .before .before .before .before .before .before .before .before .before in
     let word = c .before .before .before .before in
     let taken = judged .before .before .before .loop-test .taken in
-    let two = running-two (start .pre .1 .0) (loop .loop .inv .0) taken _ (judged .node .ensures) (word .before .state-word .ensures) (word .if1 .taken) in
+    let two = running-two (start .pre .1 .0) (loop .loop .inv .0) taken _ (judged .node .ensures) (word .before .state-word .ensures)
+    (word .if1 .taken) in
     (two, c .before .before .clear .ensures ∙ ap (λ n. replicate n 0) (loop .loop .inv .0 .long)))
     (λ c κs. search (running-room, needs))
     (λ c.
@@ -57,7 +59,8 @@ run-spec =
     let loop = judged .before .before .before .before in
     let start = loop .before .before .before .before .before .before .before .before .before in
     let word = c .before .before .before .before .before .before in
-    looks-fit (start .pre .1 .0) (loop .loop .inv .0) (judged .before .before .before .loop-test .taken) _ (judged .node .ensures) (word .state-word .ensures))
+    looks-fit (start .pre .1 .0) (loop .loop .inv .0) (judged .before .before .before .loop-test .taken) _ (judged .node .ensures)
+    (word .state-word .ensures))
     (λ c. search needs)
     (λ c.
     let judged = c .before .before .before .before .before .before .before .before .before in
@@ -66,7 +69,8 @@ run-spec =
     let word = c .before .before .before .before .before in
     let taken = judged .before .before .before .loop-test .taken in
     let kept = c .before .before .before .keep .ensures in
-    let more = running-more (start .pre .1 .0) (loop .loop .inv .0) taken _ (judged .node .ensures) (word .before .state-word .ensures) (word .if1 .left) kept in
+    let more = running-more (start .pre .1 .0) (loop .loop .inv .0) taken _ (judged .node .ensures) (word .before .state-word .ensures)
+    (word .if1 .left) kept in
     (more, judged .node .kept .1 .1 .1 .1 .1 .0 ∙ loop .loop .inv .1))
     (λ c. search needs)
     (λ c. search needs)

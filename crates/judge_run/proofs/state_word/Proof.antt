@@ -13,5 +13,10 @@ state-word-spec =
     (λ c κs. search needs)
     (λ c. word-several (c .before .without-lowest .ensures) (search needs) (c .if2 .taken))
     (λ c κs. search needs)
-    (λ c. omega (arith, low-small (c .before .before .without-lowest .ensures) (search needs) (search needs) (c .before .before .before .if1 .left) (c .before .if2 .left) (c .lowest .ensures)))
-    (λ c. word-one (c .before .before .without-lowest .ensures) (search needs) (search needs) (c .before .before .before .if1 .left) (c .before .if2 .left) (c .lowest .ensures)))
+    (λ c. omega (
+      arith,
+      low-small (c .before .before .without-lowest .ensures) (search needs) (search needs)
+          (c .before .before .before .if1 .left) (c .before .if2 .left) (c .lowest .ensures),
+    ))
+    (λ c. word-one (c .before .before .without-lowest .ensures) (search needs) (search needs) (c .before .before .before .if1 .left)
+    (c .before .if2 .left) (c .lowest .ensures)))

@@ -19,5 +19,7 @@ of-answer-spec =
     (λ c κs. search needs)
     (λ c. search needs)
     (λ c κs. search needs)
-    (λ c. rw (c .before .before .before .before .before .before .before .before .before .answer .given .1) (put-front (put-then (put-then (c .before .before .before .before .before .put .ensures) (c .before .before .before .put-field .ensures .0)) (c .put2 .ensures))))
+    (λ c. rw (c .before .before .before .before .before .before .before .before .before .answer .given .1)
+    (put-front (put-then (put-then (c .before .before .before .before .before .put .ensures)
+    (c .before .before .before .put-field .ensures .0)) (c .put2 .ensures))))
     (λ c. rw (c .before .before .before .answer2 .given .1) (put-front (c .error .ensures))))

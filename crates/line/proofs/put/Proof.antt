@@ -15,4 +15,5 @@ put-spec =
     (λ c κs. search needs)
     (λ c. search needs)
     (λ c. search needs)
-    (λ c. put-copied _ _ _ _ (c .before .before .before .before .before .before .pre) refl (c .before .before .copy .ensures .0) (c .before .before .copy .ensures .1)))
+    (λ c. put-copied _ _ _ _ (c .before .before .before .before .before .before .pre) refl (c .before .before .copy .ensures .0)
+    (c .before .before .copy .ensures .1)))

@@ -17,5 +17,8 @@ put-field-spec =
     (λ c κs. search needs)
     (λ c. search needs)
     (λ c. search needs)
-    (λ c κs. let k = c .before .before .before .before .before .decimal .ensures in omega (arith, few-digits _ _ (search needs) (k .1 .0), k .0 .1, c .before .before .put .ensures .next-is))
-    (λ c. let k = c .before .before .before .before .before .before .decimal .ensures in put-digits _ (few-digits _ _ (search needs) (k .1 .0)) (sym (k .0 .1)) (k .1 .0) (k .1 .1) (c .before .before .before .put .ensures) (c .put2 .ensures)))
+    (λ c κs. let k = c .before .before .before .before .before .decimal .ensures in
+    omega (arith, few-digits _ _ (search needs) (k .1 .0), k .0 .1, c .before .before .put .ensures .next-is))
+    (λ c. let k = c .before .before .before .before .before .before .decimal .ensures in put-digits _
+    (few-digits _ _ (search needs) (k .1 .0)) (sym (k .0 .1)) (k .1 .0) (k .1 .1) (c .before .before .before .put .ensures)
+    (c .put2 .ensures)))

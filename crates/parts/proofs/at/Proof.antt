@@ -7,4 +7,5 @@ use Rattle.parts.proofs.at.Tie as tie
 
 pub at-spec : {M : Type 1} → statement M
 at-spec =
-    tie.close (tie.spec (λ c. search needs) (λ c. search needs) (λ c. search needs) (λ c. sym (List·getD-eq-default (c .before .args .words .now) 0 (c .if1 .left))))
+    tie.close (tie.spec (λ c. search needs) (λ c. search needs) (λ c. search needs)
+    (λ c. sym (List·getD-eq-default (c .before .args .words .now) 0 (c .if1 .left))))

@@ -7,4 +7,5 @@ use Rattle.parts.proofs.order_length.Tie as tie
 
 pub order-length-spec : {M : Type 1} → statement M
 unfolding order-length
-order-length-spec = tie.close (tie.spec (λ c κs. search needs) (λ c κs. search needs) (λ c. search needs) (λ c. omega (arith, c .wide .ensures, c .before .field .ensures)))
+order-length-spec = tie.close (tie.spec (λ c κs. search needs) (λ c κs. search needs) (λ c. search needs)
+    (λ c. omega (arith, c .wide .ensures, c .before .field .ensures)))

@@ -14,4 +14,6 @@ sums c =
 
 pub step-length-spec : {M : Type 1} → statement M
 step-length-spec =
-    tie.close (tie.spec (λ c κs. search needs) (λ c κs. search needs) (λ c κs. search needs) (λ c κs. search needs) (λ c κs. search needs) (λ c κs. search needs) (λ c. search needs) (λ c κs. search needs) (λ c. search needs) sums (λ c. search (step-one, needs)) (λ c. search (step-two, needs)))
+    tie.close (tie.spec (λ c κs. search needs) (λ c κs. search needs) (λ c κs. search needs) (λ c κs. search needs) (λ c κs. search needs)
+    (λ c κs. search needs) (λ c. search needs) (λ c κs. search needs) (λ c. search needs) sums (λ c. search (step-one, needs))
+    (λ c. search (step-two, needs)))

@@ -21,10 +21,18 @@ element-spec =
     Inv-loop
     μ-loop
     (λ c. inl (c .before .before .pre .1 .1 .1))
-    (λ c κs. (c .before .before .before .before .pre .0, (c .before .before .before .before .pre .1 .0, (c .before .before .before .before .pre .1 .1 .0, c .before .loop .inv))))
+    (λ c κs. (
+      c .before .before .before .before .pre .0,
+      (c .before .before .before .before .pre .1 .0, (c .before .before .before .before .pre .1 .1 .0, c .before .loop .inv)),
+    ))
     (λ c κs. search needs)
     (λ c. rw (c .refusal-of .ensures) (c .before .before .before .token .ensures .stopped (c .before .if1 .taken)))
-    (λ c κs. (c .before .before .before .before .before .before .before .before .before .before .pre .0, (c .if2 .taken, c .before .before .before .before .before .token .ensures .on (c .before .before .before .if1 .left) .1 .within)))
-    (λ c. c .ending .ensures _ _ (c .before .before .before .before .before .before .token .ensures .on (c .before .before .before .before .if1 .left) .1))
-    (λ c. let g = c .before .before .before .before .before .token .ensures .on (c .before .before .before .if1 .left) in omega (arith, g .0, g .1 .within))
+    (λ c κs. (
+      c .before .before .before .before .before .before .before .before .before .before .pre .0,
+      (c .if2 .taken, c .before .before .before .before .before .token .ensures .on (c .before .before .before .if1 .left) .1 .within),
+    ))
+    (λ c. c .ending .ensures _ _ (c .before .before .before .before .before .before .token .ensures .on
+    (c .before .before .before .before .if1 .left) .1))
+    (λ c. let g = c .before .before .before .before .before .token .ensures .on
+    (c .before .before .before .if1 .left) in omega (arith, g .0, g .1 .within))
     (λ c. inr (omega arith, c .before .before .before .before .before .token .ensures .on (c .before .before .before .if1 .left) .1)))

@@ -12,5 +12,8 @@ ending-spec =
     (λ c κs. search needs)
     (λ c κs. search needs)
     (λ c κs. search needs)
-    (λ c. λ list words r. rw (c .refusal-of .ensures) (rw (c .before .stopped .ensures) (after-stuck r (omega arith) _ (c .before .before .before .before .past-white .ensures .0) _ (c .before .before .before .before .past-white .ensures .1 .1) (c .before .before .if1 .taken))))
+    (λ c. λ list words r. rw (c .refusal-of .ensures)
+    (rw (c .before .stopped .ensures)
+    (after-stuck r (omega arith) _ (c .before .before .before .before .past-white .ensures .0) _
+    (c .before .before .before .before .past-white .ensures .1 .1) (c .before .before .if1 .taken))))
     (λ c. λ list words r. whole-read r (omega arith) _ (c .before .before .past-white .ensures .0) (c .if1 .left)))

@@ -26,6 +26,10 @@ unpack-spec =
     (λ c κs. omega (arith, c .before .before .before .loop .inv .1 .same))
     (λ c. search needs)
     (λ c. search needs)
-    (λ c. (omega arith, unpacked-more (c .before .before .before .before .before .before .loop .inv .1) (omega arith) (omega arith) (c .before .before .put-node .ensures)))
+    (λ c. (
+      omega arith,
+      unpacked-more (c .before .before .before .before .before .before .loop .inv .1) (omega arith) (omega arith)
+          (c .before .before .put-node .ensures),
+    ))
     (λ c. c .before .loop .inv .1 .same)
     (λ c. let e : c .before .loop .k ≡ c .before .before .before .args .n = omega arith in rw (← e) (c .before .loop .inv .1 .front)))

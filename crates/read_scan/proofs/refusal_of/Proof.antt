@@ -9,6 +9,23 @@ refusal-of-spec = tie.close
     (λ c. rw (eq-eqb _ _ (c .if1 .taken)))
     (λ c. rw (ne-eqb _ _ (c .before .if1 .left), eq-eqb _ _ (c .if2 .taken)))
     (λ c. rw (ne-eqb _ _ (c .before .before .if1 .left), ne-eqb _ _ (c .before .if2 .left), eq-eqb _ _ (c .if3 .taken)))
-    (λ c. rw (ne-eqb _ _ (c .before .before .before .if1 .left), ne-eqb _ _ (c .before .before .if2 .left), ne-eqb _ _ (c .before .if3 .left), eq-eqb _ _ (c .if4 .taken)))
-    (λ c. rw (ne-eqb _ _ (c .before .before .before .before .if1 .left), ne-eqb _ _ (c .before .before .before .if2 .left), ne-eqb _ _ (c .before .before .if3 .left), ne-eqb _ _ (c .before .if4 .left), eq-eqb _ _ (c .if5 .taken)))
-    (λ c. rw (ne-eqb _ _ (c .before .before .before .before .if1 .left), ne-eqb _ _ (c .before .before .before .if2 .left), ne-eqb _ _ (c .before .before .if3 .left), ne-eqb _ _ (c .before .if4 .left), ne-eqb _ _ (c .if5 .left))))
+    (λ c. rw (
+      ne-eqb _ _ (c .before .before .before .if1 .left),
+      ne-eqb _ _ (c .before .before .if2 .left),
+      ne-eqb _ _ (c .before .if3 .left),
+      eq-eqb _ _ (c .if4 .taken),
+    ))
+    (λ c. rw (
+      ne-eqb _ _ (c .before .before .before .before .if1 .left),
+      ne-eqb _ _ (c .before .before .before .if2 .left),
+      ne-eqb _ _ (c .before .before .if3 .left),
+      ne-eqb _ _ (c .before .if4 .left),
+      eq-eqb _ _ (c .if5 .taken),
+    ))
+    (λ c. rw (
+      ne-eqb _ _ (c .before .before .before .before .if1 .left),
+      ne-eqb _ _ (c .before .before .before .if2 .left),
+      ne-eqb _ _ (c .before .before .if3 .left),
+      ne-eqb _ _ (c .before .if4 .left),
+      ne-eqb _ _ (c .if5 .left),
+    )))

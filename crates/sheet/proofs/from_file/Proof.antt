@@ -36,12 +36,14 @@ from-file-spec =
     (λ c. search needs)
     (λ c.
     let k = c .before .before in
-    front-length (k .before .before .before .before .before .args .bytes .now) _ (k .before .before .within .ensures) (k .put-words .ensures))
+    front-length (k .before .before .before .before .before .args .bytes .now) _ (k .before .before .within .ensures)
+    (k .put-words .ensures))
     (λ c κs. search needs)
     (λ c. search needs)
     (λ c. search needs)
     (λ c. search needs)
-    (λ c. let k = c .before .before .before in answers-over _ _ (whole-words k) (c .before .enum-told .given .1) (checked k) (c .if1 .taken))
+    (λ c. let k = c .before .before .before in answers-over _ _ (whole-words k) (c .before .enum-told .given .1) (checked k)
+    (c .if1 .taken))
     (λ c.
     let k = c .before .before .before .before in
     answers-short _ _ (whole-words k) (c .before .before .enum-told .given .1) (checked k) (c .before .if1 .left) (c .if2 .taken))
@@ -51,5 +53,6 @@ from-file-spec =
     (λ c.
     let l = c .before .before .before .before in
     let k = l .before .before .before .before in
-    let (answer, buffer) = answers-count _ _ (whole-words k) (l .before .before .enum-told .given .1) (checked k) (l .before .if1 .left) (l .if2 .left) in
+    let (answer, buffer) = answers-count _ _ (whole-words k) (l .before .before .enum-told .given .1) (checked k) (l .before .if1 .left)
+    (l .if2 .left) in
     (answer, c .before .before .put-words2 .ensures ∙ buffer)))

@@ -23,7 +23,8 @@ ends c =
           (then-last _ _ _ _ (rules .rules .ensures .0)))))),
       record {
         noted = λ ok.
-            whole-noted ok (edition .between .ensures) (final .before .before .word-at .ensures) (final .before .between2 .ensures) (final .set-below .ensures)
+            whole-noted ok (edition .between .ensures) (final .before .before .word-at .ensures) (final .before .between2 .ensures)
+            (final .set-below .ensures)
             (tags .before .word-at2 .ensures) (tags .between3 .ensures) (rules .before .before .before .word-at3 .ensures)
             (rules .before .before .between4 .ensures) (rules .rules .ensures .1);
       },

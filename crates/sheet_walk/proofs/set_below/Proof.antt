@@ -12,8 +12,10 @@ set-below-spec =
     (tie.spec
     (λ c κs. search needs)
     (λ c κs. search needs)
-    (λ c. let k = c .before .before .before .before .args .k in then-set _ _ k k 0 (omega arith) (omega arith) (c .before .bits .ensures) (c .bits2 .ensures))
+    (λ c. let k = c .before .before .before .before .args .k in then-set _ _ k k 0 (omega arith) (omega arith) (c .before .bits .ensures)
+    (c .bits2 .ensures))
     (λ c κs. search needs)
     (λ c. search needs)
     (λ c κs. search needs)
-    (λ c. let k = c .before .before .before .before .args .k in then-set _ _ k 32 (k - 32) (omega arith) (omega arith) (c .before .bits3 .ensures) (c .bits4 .ensures)))
+    (λ c. let k = c .before .before .before .before .args .k in then-set _ _ k 32 (k - 32) (omega arith) (omega arith)
+    (c .before .bits3 .ensures) (c .bits4 .ensures)))

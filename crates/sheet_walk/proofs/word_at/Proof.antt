@@ -17,4 +17,5 @@ word-at-spec =
     (λ c. search needs)
     (λ c. search needs)
     (λ c. rw (c .before .before .before .walk .given .1))
-    (λ c. rw (c .before .before .walk .given .1) (sym (List·getD-eq-default (c .before .before .before .before .args .words .now) 0 (c .if1 .left)))))
+    (λ c. rw (c .before .before .walk .given .1)
+    (sym (List·getD-eq-default (c .before .before .before .before .args .words .now) 0 (c .if1 .left)))))

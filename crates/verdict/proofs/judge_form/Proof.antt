@@ -22,17 +22,34 @@ judge-form-spec =
     (λ c file from.
     let k = c .before .before .before .before in
     let (names, sheet) = k .before .before .before .before .before .before .before .before .pre in
-    tags-differ _ _ names file sheet from (tree-counted _ _ names _ (k .before .before .before .read .ensures) (k .n .given .1)) (c .before .wide .ensures) (c .if1 .taken))
-    (λ c. let k = c .before .before .before .before in omega (arith, tree-counted _ _ (k .before .before .before .before .before .before .before .before .pre .0) _ (k .before .before .before .read .ensures) (k .n .given .1) .few))
-    (λ c. let k = c .before .before .before .before in omega (arith, tree-counted _ _ (k .before .before .before .before .before .before .before .before .pre .0) _ (k .before .before .before .read .ensures) (k .n .given .1) .few))
+    tags-differ _ _ names file sheet from (tree-counted _ _ names _ (k .before .before .before .read .ensures) (k .n .given .1))
+    (c .before .wide .ensures) (c .if1 .taken))
+    (λ c. let k = c .before .before .before .before in
+    omega (
+      arith,
+      tree-counted _ _ (k .before .before .before .before .before .before .before .before .pre .0) _
+          (k .before .before .before .read .ensures) (k .n .given .1) .few,
+    ))
+    (λ c. let k = c .before .before .before .before in
+    omega (
+      arith,
+      tree-counted _ _ (k .before .before .before .before .before .before .before .before .pre .0) _
+          (k .before .before .before .read .ensures) (k .n .given .1) .few,
+    ))
     (λ c.
     let k = c .before .before .before .before .before in
-    sym (length-take-le _ _ (omega (arith, tree-counted _ _ (k .before .before .before .before .before .before .before .before .pre .0) _ (k .before .before .before .read .ensures) (k .n .given .1) .few))))
+    sym (length-take-le _ _ (omega (
+      arith,
+      tree-counted _ _ (k .before .before .before .before .before .before .before .before .pre .0) _
+          (k .before .before .before .read .ensures) (k .n .given .1) .few,
+    ))))
     (λ c. search needs)
     (λ c κs. search needs)
-    (λ c file from. let (names, sheet) = c .before .before .before .before .before .before .before .before .before .pre in text-refused _ _ names file sheet from _ (omega arith) (c .before .before .before .before .read .ensures .0) (c .before .refusal .given .1))
+    (λ c file from. let (names, sheet) = c .before .before .before .before .before .before .before .before .before .pre in text-refused _ _
+    names file sheet from _ (omega arith) (c .before .before .before .before .read .ensures .0) (c .before .refusal .given .1))
     (λ c file from.
     let k = c .before .before .before .before .before .before .before .before in
     let (names, sheet) = k .before .before .before .before .before .before .before .before .pre in
     c .before .judge .ensures .0
-    ∙ form-judged _ _ names file sheet from (tree-counted _ _ names _ (k .before .before .before .read .ensures) (k .n .given .1)) (c .before .before .before .before .before .wide .ensures) (c .before .before .before .before .if1 .left) _ (omega arith)))
+    ∙ form-judged _ _ names file sheet from (tree-counted _ _ names _ (k .before .before .before .read .ensures) (k .n .given .1))
+    (c .before .before .before .before .before .wide .ensures) (c .before .before .before .before .if1 .left) _ (omega arith)))

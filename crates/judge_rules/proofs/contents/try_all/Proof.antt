@@ -7,7 +7,8 @@ use Rattle.model.specs.Index.{rules-in}
 use Rattle.judge_order.specs.Order.{states-of}
 use Rattle.judge_rules.proofs.TargetLaws.{head-some, entry-small, entry-room, after-small, after-room, chain-nearer}
 use Rattle.judge_rules.proofs.TryLaws.{look-fits}
-use Rattle.judge_rules.proofs.ContentLaws.{Trying, trying-begun, ends-some, next-content, next-counted, looks-fit, trying-more, trying-ended}
+use Rattle.judge_rules.proofs.ContentLaws.{Trying, trying-begun, ends-some, next-content, next-counted, looks-fit, trying-more}
+use Rattle.judge_rules.proofs.ContentLaws.{trying-ended}
 use Rattle.judge_rules.proofs.contents.try_all.Statement.{statement}
 use Rattle.judge_rules.proofs.contents.try_all.Tie as tie
 
@@ -49,6 +50,7 @@ try-all-spec =
     let here = after .before .before in
     let loop = here .before .before .before in
     let start = loop .before .before .before .before .before .before in
-    trying-more (start .pre .0 .0) (start .pre .0 .1) (loop .loop .inv) (here .before .before .loop-test .taken) refl (here .entry-of .ensures .0) refl (after .entry-of2 .ensures .0)
+    trying-more (start .pre .0 .0) (start .pre .0 .1) (loop .loop .inv) (here .before .before .loop-test .taken) refl
+    (here .entry-of .ensures .0) refl (after .entry-of2 .ensures .0)
     (here .entry-of .ensures .1) (tried .try-rule .ensures) (c .before .with-if .ensures))
     (λ c. search (trying-ended, needs)))

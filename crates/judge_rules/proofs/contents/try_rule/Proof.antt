@@ -1,7 +1,9 @@
 -- `contents::try_rule` meets its contract, by the rule's map: its parts are where the map says, and both must fit.
 use borrow.Author.Needs.{needs}
-use Rattle.judge_rules.proofs.TryLaws.{map-room, part-fits, part-room, part-before, target-within, order-lent, first-lent, second-lent}
-use Rattle.judge_rules.proofs.TryLaws.{middle-fits, middle-room, middle-within, middle-before, unordered-tries, unfit-tries, ordered-tries}
+use Rattle.judge_rules.proofs.TryLaws.{map-room, part-fits, part-room, part-before, target-within, order-lent, first-lent}
+use Rattle.judge_rules.proofs.TryLaws.{second-lent}
+use Rattle.judge_rules.proofs.TryLaws.{middle-fits, middle-room, middle-within, middle-before, unordered-tries, unfit-tries}
+use Rattle.judge_rules.proofs.TryLaws.{ordered-tries}
 use Rattle.judge_rules.proofs.contents.try_rule.Statement.{statement}
 use Rattle.judge_rules.proofs.contents.try_rule.Tie as tie
 
@@ -37,5 +39,6 @@ try-rule-spec =
     let order = c .before .before .before .before .before .before in
     let start = order .before .before .before .before .before .before .before in
     let told = order .before .before in
-    second-lent (start .pre .0 .0) (start .pre .0 .1) (told .has-order .ensures) (told .before .has-count .ensures) (order .before .if1 .left) (order .order-length .ensures))
+    second-lent (start .pre .0 .0) (start .pre .0 .1) (told .has-order .ensures) (told .before .has-count .ensures)
+    (order .before .if1 .left) (order .order-length .ensures))
     (λ c. search (ordered-tries, needs)))

@@ -2,7 +2,8 @@
 use Prim.Native.Nat.{_-_}
 use borrow.Author.Needs.{needs}
 use Rattle.model.specs.Index.{rules-in}
-use Rattle.judge_rules.proofs.TargetLaws.{OnTag, tag-head, entry-small, entry-room, chain-nearer, tags-begun, tag-room, tag-added, tags-ended}
+use Rattle.judge_rules.proofs.TargetLaws.{OnTag, tag-head, entry-small, entry-room, chain-nearer, tags-begun, tag-room, tag-added}
+use Rattle.judge_rules.proofs.TargetLaws.{tags-ended}
 use Rattle.judge_rules.proofs.targets.tag_targets.Statement.{statement}
 use Rattle.judge_rules.proofs.targets.tag_targets.Tie as tie
 

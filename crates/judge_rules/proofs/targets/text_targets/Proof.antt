@@ -3,7 +3,8 @@ use Prim.Native.Nat.{_-_}
 use borrow.Author.Needs.{needs}
 use Rattle.model.specs.Run.{at-text}
 use Rattle.model.specs.Index.{rules-in}
-use Rattle.judge_rules.proofs.TargetLaws.{OnChain, text-head, entry-small, entry-room, chain-nearer, texts-begun, text-small, text-room, text-added, texts-ended}
+use Rattle.judge_rules.proofs.TargetLaws.{OnChain, text-head, entry-small, entry-room, chain-nearer, texts-begun, text-small}
+use Rattle.judge_rules.proofs.TargetLaws.{text-room, text-added, texts-ended}
 use Rattle.judge_rules.proofs.targets.text_targets.Statement.{statement}
 use Rattle.judge_rules.proofs.targets.text_targets.Tie as tie
 

@@ -20,7 +20,8 @@ abbrev μ-loop : tie.MeasureT-loop
 abbrev Begun : tie.After-wide Inv-loop μ-loop → Type 0
 Begun w =
     let a = w .before .before .before .before .before .before .before .before .before .args in
-    Chaining (a .sheet .now) (a .index .now) (set (w .before .before .before .clear-heads .last .0) (67 + w .wide .result) (length (a .sheet .now))) (w .wide .result)
+    Chaining (a .sheet .now) (a .index .now)
+    (set (w .before .before .before .clear-heads .last .0) (67 + w .wide .result) (length (a .sheet .now))) (w .wide .result)
 
 begun : (w : tie.After-wide Inv-loop μ-loop) → Begun w
 begun w =
@@ -28,8 +29,11 @@ begun w =
     chaining-none (pre .0 .sheet) (w .before .before .before .clear-heads .ensures) refl (w .wide .ensures) (pre .1)
 
 -- the rules from j on are in the index
-going : (c : tie.In-loop Inv-loop μ-loop) → let a = c .before .before .before .before .before .before .before .before .before .before .before .args in Chaining (a .sheet .now) (a .index .now) (c .before .loop .index) (c .before .loop .j)
-going c = c .before .loop .inv _ (c .before .before .before .before .before .before .before .before .before .before .before .pre .1) (begun (c .before .before))
+going : (c : tie.In-loop Inv-loop μ-loop) → let a =
+    c .before .before .before .before .before .before .before .before .before .before .before .args in Chaining (a .sheet .now)
+    (a .index .now) (c .before .loop .index) (c .before .loop .j)
+going c = c .before .loop .inv _ (c .before .before .before .before .before .before .before .before .before .before .before .pre .1)
+    (begun (c .before .before))
 
 here : tie.Need-shared-slice-read-put-entry Inv-loop μ-loop
 here c =
@@ -46,21 +50,45 @@ chain-spec =
     (λ c κs. omega (arith, c .before .before .before .before .before .pre .1))
     (λ c κs. search needs)
     (λ c. omega (arith, few-words (c .before .before .before .before .before .before .before .before .before .pre .0 .sheet) .1))
-    (λ c. omega (arith, begun c .few, in-range (c .before .before .before .before .before .before .before .before .before .pre .0 .sheet) .few-rules))
-    (λ c. omega (arith, begun c .few, in-range (c .before .before .before .before .before .before .before .before .before .pre .0 .sheet) .few-rules))
-    (λ c. omega (arith, begun c .few, in-range (c .before .before .before .before .before .before .before .before .before .pre .0 .sheet) .few-rules, c .before .before .before .clear-heads .ensures .long, c .before .before .before .before .before .before .before .before .before .pre .1))
+    (λ c. omega (
+      arith,
+      begun c .few,
+      in-range (c .before .before .before .before .before .before .before .before .before .pre .0 .sheet) .few-rules,
+    ))
+    (λ c. omega (
+      arith,
+      begun c .few,
+      in-range (c .before .before .before .before .before .before .before .before .before .pre .0 .sheet) .few-rules,
+    ))
+    (λ c. omega (
+      arith,
+      begun c .few,
+      in-range (c .before .before .before .before .before .before .before .before .before .pre .0 .sheet) .few-rules,
+      c .before .before .before .clear-heads .ensures .long,
+      c .before .before .before .before .before .before .before .before .before .pre .1,
+    ))
     (λ c. λ old room h. h)
     (λ c. search needs)
-    (λ c. omega (arith, going c .few, in-range (c .before .before .before .before .before .before .before .before .before .before .before .pre .0 .sheet) .few-rules))
+    (λ c. omega (
+      arith,
+      going c .few,
+      in-range (c .before .before .before .before .before .before .before .before .before .before .before .pre .0 .sheet) .few-rules,
+    ))
     here
     (λ c κs.
     let pre = c .before .before .before .before .before .before .before .before .before .before .before .before .before .pre in
-    entry-fits (pre .0 .sheet) (going (c .before .before)) (omega arith) (pre .1) (pre .0 .noted _ (omega (arith, going (c .before .before) .few)) (here (c .before))))
+    entry-fits (pre .0 .sheet) (going (c .before .before)) (omega arith) (pre .1)
+    (pre .0 .noted _ (omega (arith, going (c .before .before) .few)) (here (c .before))))
     (λ c. omega arith)
     (λ c. λ old room h.
     let put = c .before .before in
     let loop = put .before .before .before in
     let pre = loop .before .before .before .before .before .before .before .before .before .before .before .pre in
-    rw (put .put-entry .ensures) (chaining-more (pre .0 .sheet) (loop .before .loop .inv old room h) (omega arith) room (pre .0 .noted _ (omega (arith, going loop .few)) (here (put .before .before)))))
-    (λ c. c .before .loop .inv _ (c .before .before .before .before .before .before .before .before .before .before .before .pre .1) (begun (c .before .before)) .long)
-    (λ c. chaining-all (c .before .before .before .before .before .before .before .before .before .before .before .pre .0 .sheet) (c .before .loop .inv _ (c .before .before .before .before .before .before .before .before .before .before .before .pre .1) (begun (c .before .before))) (c .loop-test .left) (c .before .before .before .before .before .before .before .before .before .before .before .pre .1)))
+    rw (put .put-entry .ensures) (chaining-more (pre .0 .sheet) (loop .before .loop .inv old room h) (omega arith) room
+    (pre .0 .noted _ (omega (arith, going loop .few)) (here (put .before .before)))))
+    (λ c. c .before .loop .inv _ (c .before .before .before .before .before .before .before .before .before .before .before .pre .1)
+    (begun (c .before .before)) .long)
+    (λ c. chaining-all (c .before .before .before .before .before .before .before .before .before .before .before .pre .0 .sheet)
+    (c .before .loop .inv _ (c .before .before .before .before .before .before .before .before .before .before .before .pre .1)
+    (begun (c .before .before))) (c .loop-test .left)
+    (c .before .before .before .before .before .before .before .before .before .before .before .pre .1)))

@@ -15,7 +15,8 @@ heads-few c =
 puts : tie.Need-returns
 puts c =
     let at = c .before .before .before .before in
-    entry-put _ _ _ _ (rw (c .before .before .before .at .ensures, c .before .before .field .ensures, at .wide .ensures) at (c .before .key-of .ensures .0))
+    entry-put _ _ _ _ (rw (c .before .before .before .at .ensures, c .before .before .field .ensures, at .wide .ensures)
+    at (c .before .key-of .ensures .0))
 
 pub put-entry-spec : {M : Type 1} → statement M
 put-entry-spec =
@@ -28,12 +29,29 @@ put-entry-spec =
     (λ c. omega (arith, c .key-of .ensures .1, c .before .before .before .before .before .before .pre .room))
     (λ c. omega (arith, c .before .key-of .ensures .1, c .before .before .before .before .before .before .before .pre .room))
     heads-few
-    (λ c. omega (arith, heads-few c, c .before .before .before .before .before .before .before .pre .heads _ (c .before .key-of .ensures .1), c .before .before .before .before .before .before .before .pre .place))
+    (λ c. omega (
+      arith,
+      heads-few c,
+      c .before .before .before .before .before .before .before .pre .heads _ (c .before .key-of .ensures .1),
+      c .before .before .before .before .before .before .before .pre .place,
+    ))
     (λ c. omega (arith, c .before .before .before .before .before .before .before .pre .rule))
-    (λ c. omega (arith, c .before .before .before .before .before .before .before .pre .rule, c .before .before .before .before .before .before .before .pre .room))
-    (λ c. omega (arith, c .before .before .before .before .before .before .before .pre .rule, c .before .before .before .before .before .before .before .pre .room))
+    (λ c. omega (
+      arith,
+      c .before .before .before .before .before .before .before .pre .rule,
+      c .before .before .before .before .before .before .before .pre .room,
+    ))
+    (λ c. omega (
+      arith,
+      c .before .before .before .before .before .before .before .pre .rule,
+      c .before .before .before .before .before .before .before .pre .room,
+    ))
     (λ c. omega (arith, c .before .before .before .before .before .before .before .pre .rule))
     (λ c. omega (arith, c .before .key-of .ensures .1))
-    (λ c. simp length-set (omega (arith, c .before .key-of .ensures .1, c .before .before .before .before .before .before .before .pre .room)))
+    (λ c. simp length-set (omega (
+      arith,
+      c .before .key-of .ensures .1,
+      c .before .before .before .before .before .before .before .pre .room,
+    )))
     (λ c. simp length-set)
     puts)

@@ -41,7 +41,8 @@ rule-spec =
     (λ c.
     let m = c .before .before .before in
     keyed _ _ _ refl (m .before .before .any-word .ensures) (m .before .word-at .ensures) (m .match .keys2)
-    (then-word _ _ _ _ refl (c .before .before .between2 .ensures) (then-word _ _ _ _ refl (c .before .below2 .ensures) (then-last _ _ _ _ (c .below3 .ensures)))))
+    (then-word _ _ _ _ refl (c .before .before .between2 .ensures)
+    (then-word _ _ _ _ refl (c .before .below2 .ensures) (then-last _ _ _ _ (c .below3 .ensures)))))
     (λ c.
     let m = c .before in
     keyed _ _ _ refl (m .before .before .any-word .ensures) (m .before .word-at .ensures) (m .match .keys3)
@@ -63,5 +64,12 @@ rule-spec =
     let m = c .before in
     let r = m .match .rest in
     keyed _ _ _ refl (m .before .before .any-word .ensures) (m .before .word-at .ensures) refl
-    (rw (ne-eqb _ _ (r .0 .0 .0 .0 .0 .1), ne-eqb _ _ (r .0 .0 .0 .0 .1), ne-eqb _ _ (r .0 .0 .0 .1), ne-eqb _ _ (r .0 .0 .1), ne-eqb _ _ (r .0 .1), ne-eqb _ _ (r .1))
+    (rw (
+      ne-eqb _ _ (r .0 .0 .0 .0 .0 .1),
+      ne-eqb _ _ (r .0 .0 .0 .0 .1),
+      ne-eqb _ _ (r .0 .0 .0 .1),
+      ne-eqb _ _ (r .0 .0 .1),
+      ne-eqb _ _ (r .0 .1),
+      ne-eqb _ _ (r .1),
+    )
     (c .refuse .ensures))))

@@ -34,6 +34,10 @@ rules-spec =
     (λ c.
     let told = c .before .before .before .before .before in
     let test = told .before .before .before in
-    noting-more (test .before .loop .inv) (test .loop-test .taken) (told .before .walk .given .1) (c .before .before .before .put-place .ensures) (c .rule .ensures))
+    noting-more (test .before .loop .inv) (test .loop-test .taken) (told .before .walk .given .1)
+    (c .before .before .before .put-place .ensures) (c .rule .ensures))
     (λ c. c .before .loop .inv .long)
-    (λ c. (loop-done _ _ _ _ _ _ (c .before .loop .inv .walks) (c .loop-test .left), noting-all (c .before .loop .inv) (c .loop-test .left))))
+    (λ c. (
+      loop-done _ _ _ _ _ _ (c .before .loop .inv .walks) (c .loop-test .left),
+      noting-all (c .before .loop .inv) (c .loop-test .left),
+    )))

@@ -13,7 +13,8 @@ use Rattle.sheet_parts.proofs.count.coefficients.Statement.{statement}
 use Rattle.sheet_parts.proofs.count.coefficients.Tie as tie
 
 abbrev Inv-loop : tie.InvT-loop
-Inv-loop words n start at₀ i₀ at i = after (all coefficient (from (n - i) i)) words (At at) ≡ after (all coefficient (numbers n)) words (At start)
+Inv-loop words n start at₀ i₀ at i = after (all coefficient (from (n - i) i)) words (At at) ≡ after (all coefficient (numbers n)) words
+    (At start)
 
 abbrev μ-loop : tie.MeasureT-loop
 μ-loop words n start at₀ i₀ at i = n - i

@@ -23,8 +23,10 @@ step-spec =
     (λ c κs. search needs)
     (λ c κs. search needs)
     (λ c κs. search needs)
-    (λ c. let m = c .before in keyed _ _ _ refl (m .before .before .any-word .ensures) (m .before .word-at .ensures) (m .match .keys1) (c .at-most .ensures))
-    (λ c. let m = c .before in keyed _ _ _ refl (m .before .before .any-word .ensures) (m .before .word-at .ensures) (m .match .keys2) (c .remainder .ensures))
+    (λ c. let m = c .before in keyed _ _ _ refl (m .before .before .any-word .ensures) (m .before .word-at .ensures) (m .match .keys1)
+    (c .at-most .ensures))
+    (λ c. let m = c .before in keyed _ _ _ refl (m .before .before .any-word .ensures) (m .before .word-at .ensures) (m .match .keys2)
+    (c .remainder .ensures))
     (λ c.
     let m = c .before in
     keyed _ _ _ refl (m .before .before .any-word .ensures) (m .before .word-at .ensures) (m .match .keys3)
@@ -41,4 +43,5 @@ step-spec =
     let m = c .before in
     let r = m .match .rest in
     keyed _ _ _ refl (m .before .before .any-word .ensures) (m .before .word-at .ensures) refl
-    (rw (ne-eqb _ _ (r .0 .0 .0 .0 .1), ne-eqb _ _ (r .0 .0 .0 .1), ne-eqb _ _ (r .0 .0 .1), ne-eqb _ _ (r .0 .1), ne-eqb _ _ (r .1)) (c .refuse .ensures))))
+    (rw (ne-eqb _ _ (r .0 .0 .0 .0 .1), ne-eqb _ _ (r .0 .0 .0 .1), ne-eqb _ _ (r .0 .0 .1), ne-eqb _ _ (r .0 .1), ne-eqb _ _ (r .1))
+    (c .refuse .ensures))))

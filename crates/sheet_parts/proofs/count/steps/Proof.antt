@@ -30,5 +30,6 @@ steps-spec =
     (λ c κs. search needs)
     (λ c. omega arith)
     (λ c. omega arith)
-    (λ c. loop-more _ _ _ _ _ _ (c .before .before .before .before .loop .inv) (c .before .before .before .loop-test .taken) (c .step .ensures))
+    (λ c. loop-more _ _ _ _ _ _ (c .before .before .before .before .loop .inv) (c .before .before .before .loop-test .taken)
+    (c .step .ensures))
     (λ c. loop-done _ _ _ _ _ _ (c .before .loop .inv) (c .loop-test .left)))

@@ -12,8 +12,10 @@ sums : tie.Need-returns
 sums c =
     let set = c .before .before .before in
     let high = set .before in
-    then-sum _ _ _ (omega arith) (omega arith) (high .before .before .word-at .ensures) (high .before .any-word .ensures) (high .word-at2 .ensures)
-    (c .before .before .size .ensures ∙ ap (λ n. length (members 64 n)) (set .of-words .ensures)) (c .before .set-below .ensures) (c .coefficients .ensures)
+    then-sum _ _ _ (omega arith) (omega arith) (high .before .before .word-at .ensures) (high .before .any-word .ensures)
+    (high .word-at2 .ensures)
+    (c .before .before .size .ensures ∙ ap (λ n. length (members 64 n)) (set .of-words .ensures)) (c .before .set-below .ensures)
+    (c .coefficients .ensures)
 
 pub sum-spec : {M : Type 1} → statement M
 sum-spec =

@@ -13,7 +13,8 @@ use Rattle.sheet_parts.proofs.order.arcs.Statement.{statement}
 use Rattle.sheet_parts.proofs.order.arcs.Tie as tie
 
 abbrev Inv-loop : tie.InvT-loop
-Inv-loop words n p m start at₀ i₀ at i = after (all (λ j. arc p m) (from (n - i) i)) words (At at) ≡ after (all (λ j. arc p m) (numbers n)) words (At start)
+Inv-loop words n p m start at₀ i₀ at i = after (all (λ j. arc p m) (from (n - i) i)) words (At at) ≡ after
+    (all (λ j. arc p m) (numbers n)) words (At start)
 
 abbrev μ-loop : tie.MeasureT-loop
 μ-loop words n p m start at₀ i₀ at i = n - i
