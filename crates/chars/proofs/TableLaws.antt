@@ -7,7 +7,7 @@ use native.Mathlib.Nat.{add-zero, zero-add, add-suc, suc-add}
 use native.Mathlib.Omega.{arith}
 use lib.Dec.{eqb}
 use lib.ListN.{getD}
-use Rattle.model.specs.Bytes.{class-number, class-of, is, letter-byte, digit-byte, name-byte}
+use Rattle.model.specs.Bytes.{class-number, class-of, is, letter-byte, name-byte}
 use Rattle.model.specs.Lists.{from}
 use Rattle.chars.specs.Table.{table}
 
@@ -18,7 +18,7 @@ mapped-at f zero q k h = absurd (omega arith)
 mapped-at f (suc n) q zero h = rw add-zero
 mapped-at f (suc n) q (suc k) h = mapped-at f n (suc q) k (omega arith) ∙ rw (suc-add, add-suc)
 
-pub class-at : (b : ℕ) → b < 256 → getD table b 0 ≡ class-number (class-of b)
+class-at : (b : ℕ) → b < 256 → getD table b 0 ≡ class-number (class-of b)
 unfolding table
 class-at b h = mapped-at (λ x. class-number (class-of x)) 256 0 b h ∙ rw zero-add
 
@@ -35,10 +35,6 @@ module _ {classes : List ℕ} (lent : classes ≡ table) (b : ℕ) (h : b < 256)
   pub letter-in : letter-byte b ≡ eqb (getD classes b 0) 1
   unfolding letter-byte is class-number
   letter-in = sym (rw class-in)
-
-  pub digit-in : digit-byte b ≡ eqb (getD classes b 0) 2
-  unfolding digit-byte is class-number
-  digit-in = sym (rw class-in)
 
   pub name-in : name-byte b ≡ ((eqb (getD classes b 0) 1 || eqb (getD classes b 0) 2) || eqb (getD classes b 0) 3)
   unfolding name-byte is class-number

@@ -1,6 +1,6 @@
-// The class of a byte, looked up in a constant table; and tests of a byte by comparisons.
+// The class of each byte, in a table; and tests of a byte by comparisons.
 ghost use mathlib.Core.Path.{_≡_};
-ghost use Rattle.model.specs.Bytes.{white, class-number, is, class-of, digit-byte};
+ghost use Rattle.model.specs.Bytes.{white, is, class-of, digit-byte};
 ghost use Rattle.model.specs.Written.{text-byte};
 ghost use Rattle.chars.specs.Table.{table};
 
@@ -21,12 +21,6 @@ pub const SLASH: u8 = 6;
 pub const OTHER: u8 = 7;
 
 pub const FORBIDDEN: u8 = 8;
-
-pub fn class_of(byte: u8) -> u8
-    ensures { λ r. ⌜ r ≡ class-number (class-of byte) ⌝ }
-{
-    CLASSES[byte as usize]
-}
 
 // The table, for a call that looks up many bytes and lends it on: `CLASSES` is set up anew wherever it is read.
 pub fn classes() -> [u8; 256]
@@ -63,7 +57,7 @@ pub fn in_text(byte: u8) -> bool
 // ---- the table
 
 // The class of each byte value.
-pub const CLASSES: [u8; 256] = [
+const CLASSES: [u8; 256] = [
     // 0 to 8
     FORBIDDEN,
     FORBIDDEN,
