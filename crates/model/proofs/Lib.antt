@@ -9,6 +9,7 @@ pub mod PartLaws
 pub mod RuleWords
 pub mod PassedLaws
 pub mod IndexLaws
+pub mod SymbolLaws
 pub mod TreeView
 pub mod TreeLaws
 pub mod WordLaws

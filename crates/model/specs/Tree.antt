@@ -110,6 +110,16 @@ text-symbol s = eqb s 65 || eqb s 66
 unfoldable pub tag-symbol : ℕ → ℕ → Bool
 tag-symbol g s = leb 1 s && leb s g
 
+-- What a symbol says by itself: a tag, by its number; a text, by its kind; or nothing.
+pub data Symbol : Type 0 where
+  of-tag : (number : ℕ) → Symbol
+  of-text : (kind : ℕ) → Symbol
+  of-nothing : Symbol
+
+-- 65 and 66 are the two kinds of text, and 0 is no symbol. Any other word is a tag's number, however many tags there are.
+unfoldable pub symbol-of : ℕ → Symbol
+symbol-of s = cond (eqb s 65) (of-text 1) (cond (eqb s 66) (of-text 2) (cond (eqb s 0) of-nothing (of-tag s)))
+
 -- What stands at node i, under a parent that ends before node `end`: nothing more, a text, an element that ends before
 -- node `next`, or a node that breaks a rule.
 pub data Seen : Type 0 where

@@ -1,1 +1,2 @@
 mod ChildLaws
+mod LookLaws

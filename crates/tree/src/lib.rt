@@ -4,16 +4,16 @@ ghost use mathlib.Core.Bool.{false};
 ghost use Prim.Native.Nat.{_*_, _≤_};
 ghost use lib.ListN.{length};
 ghost use Rattle.model.specs.Answers.{said};
-ghost use Rattle.model.specs.Tree.{text-symbol, tag-symbol, look};
+ghost use Rattle.model.specs.Tree.{tag-symbol, look};
 ghost use Rattle.model.specs.Calls.{tree-said};
 ghost use Rattle.tree.specs.Shape.{seen, shape-at};
-use layout::INTEGER_TEXT;
 use layout::MOST_LEVELS;
 use layout::MOST_NODES;
 use layout::NODE_WORDS;
-use layout::OTHER_TEXT;
 use model::Answer;
 use model::Refusal;
+use symbols::Symbol;
+use symbols::symbol_of;
 
 // What stands at a node, under a parent that ends before node `end`.
 enum Seen {
@@ -39,12 +39,7 @@ fn wide(x: u32) -> usize
     x as usize
 }
 
-fn is_text(symbol: u32) -> bool
-    ensures { λ r. ⌜ r ≡ text-symbol symbol ⌝ }
-{
-    (symbol == INTEGER_TEXT) | (symbol == OTHER_TEXT)
-}
-
+// Whether a number is one of the tags.
 fn is_tag(tags: u32, symbol: u32) -> bool
     ensures { λ r. ⌜ r ≡ tag-symbol tags symbol ⌝ }
 {
@@ -60,20 +55,24 @@ fn look(tree: &[u32], tags: u32, levels: u32, i: usize, end: usize, after_text: 
     if end <= i {
         return Seen::End;
     }
-    let symbol = tree[NODE_WORDS * i];
     let size = wide(tree[NODE_WORDS * i + 1]);
     // a true sum: 64 bits hold a node's number and any 32-bit size
     let next = i + size;
-    if is_text(symbol) {
-        if (size == 1) & !after_text {
-            return Seen::Text;
+    match symbol_of(tree[NODE_WORDS * i]) {
+        Symbol::Text(_) => {
+            if (size == 1) & !after_text {
+                return Seen::Text;
+            }
+            Seen::Breaks
         }
-        return Seen::Breaks;
+        Symbol::Tag(number) => {
+            if is_tag(tags, number) & (0 < levels) & (1 <= size) & (next <= end) {
+                return Seen::Element(next);
+            }
+            Seen::Breaks
+        }
+        Symbol::Nothing => Seen::Breaks,
     }
-    if is_tag(tags, symbol) & (0 < levels) & (1 <= size) & (next <= end) {
-        return Seen::Element(next);
-    }
-    Seen::Breaks
 }
 
 // The nodes from `first` up to `end`, side by side under one parent; calls itself for what is inside a child element,

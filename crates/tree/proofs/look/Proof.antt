@@ -1,31 +1,56 @@
--- `tree::look` meets its contract: each answer is the model's, by the tests on the way.
-use mathlib.Core.Bool.{and-assoc}
+-- `tree::look` meets its contract: each answer is the model's, by what the symbol says and the tests on the way.
 use Prim.Native.Nat.{_+_, _*_}
 use native.Mathlib.Omega.{arith}
 use borrow.Author.Needs.{needs}
-use borrow.Author.Tests.{le-leb, lt-leb}
+use borrow.Author.Tests.{le-leb}
 use Rattle.model.specs.Tree.{look}
+use Rattle.symbols.proofs.MeaningLaws.{means}
+use Rattle.tree.proofs.LookLaws.{text-looked, tag-looked, nothing-looked}
 use Rattle.tree.proofs.look.Statement.{statement}
 use Rattle.tree.proofs.look.Tie as tie
 
-pub look-spec : {M : Type 1} → statement M
+ends : tie.Need-returns
 unfolding look
+ends c = rw (le-leb _ _ (c .if1 .taken))
+
+pub look-spec : {M : Type 1} → statement M
 look-spec =
     tie.close
     (tie.spec
-    (λ c. rw (le-leb _ _ (c .if1 .taken)))
-    (λ c. search needs)
-    (λ c. search needs)
-    (λ c. search needs)
+    ends
     (λ c. search needs)
     (λ c. search needs)
     (λ c. search needs)
     (λ c. search needs)
     (λ c κs. search needs)
-    (λ c. omega (arith, c .before .shared-slice-known3 .given (4 * c .before .before .before .before .before .args .i + 1)))
+    (λ c. omega (arith, c .before .shared-slice-known2 .given (4 * c .before .before .before .before .args .i + 1)))
+    (λ c. search needs)
+    (λ c. search needs)
+    (λ c. search needs)
     (λ c κs. search needs)
-    (λ c. rw (lt-leb _ _ (c .before .before .before .before .before .before .if1 .left), ← c .before .before .is-text .ensures, c .before .if2 .taken, ← c .before .before .before .wide .ensures, c .if3 .taken))
-    (λ c. rw (lt-leb _ _ (c .before .before .before .before .before .before .if1 .left), ← c .before .before .is-text .ensures, c .before .if2 .taken, ← c .before .before .before .wide .ensures, c .if3 .left))
+    (λ c. search needs)
+    (λ c.
+    text-looked _ _ _ _ _ _ (c .before .before .before .before .before .before .before .if1 .left)
+    (c .before .before .before .before .before .wide .ensures)
+    (means (c .before .before .before .symbol-of .ensures) (c .before .enum-told .given .1)) (c .if2 .taken))
+    (λ c. search needs)
     (λ c κs. search needs)
-    (λ c. rw (lt-leb _ _ (c .before .before .before .before .before .before .before .if1 .left), ← c .before .before .before .is-text .ensures, c .before .before .if2 .left, ← c .before .is-tag .ensures, ← c .before .before .before .before .wide .ensures, ← and-assoc (c .before .is-tag .result), ← and-assoc, c .if4 .taken))
-    (λ c. rw (lt-leb _ _ (c .before .before .before .before .before .before .before .if1 .left), ← c .before .before .before .is-text .ensures, c .before .before .if2 .left, ← c .before .is-tag .ensures, ← c .before .before .before .before .wide .ensures, ← and-assoc (c .before .is-tag .result), ← and-assoc, c .if4 .left)))
+    (λ c.
+    tag-looked _ _ _ _ _ _ (c .before .before .before .before .before .before .before .before .before .if1 .left)
+    (c .before .before .before .before .before .before .before .wide .ensures)
+    (means (c .before .before .before .before .before .symbol-of .ensures) (c .before .before .before .number .given .1))
+    (rw (c .before .is-tag .ensures) at (c .if3 .taken)))
+    (λ c. search needs)
+    (λ c.
+    text-looked _ _ _ _ _ _ (c .before .before .before .before .before .before .before .if1 .left)
+    (c .before .before .before .before .before .wide .ensures)
+    (means (c .before .before .before .symbol-of .ensures) (c .before .enum-told .given .1)) (c .if2 .left))
+    (λ c.
+    tag-looked _ _ _ _ _ _ (c .before .before .before .before .before .before .before .before .before .if1 .left)
+    (c .before .before .before .before .before .before .before .wide .ensures)
+    (means (c .before .before .before .before .before .symbol-of .ensures) (c .before .before .before .number .given .1))
+    (rw (c .before .is-tag .ensures) at (c .if3 .left)))
+    (λ c.
+    nothing-looked _ _ _ _ _ _ (c .before .before .before .before .before .before .if1 .left)
+    (c .before .before .before .before .wide .ensures)
+    (means (c .before .before .symbol-of .ensures) (c .enum-told2 .given .1))))
