@@ -1,6 +1,6 @@
 // The class of each byte, in a table; and tests of a byte by comparisons.
 ghost use mathlib.Core.Path.{_≡_};
-ghost use Rattle.model.specs.Bytes.{white, is, class-of, digit-byte};
+ghost use Rattle.model.specs.Bytes.{white, is, class-of, digit-byte, kind-of-text};
 ghost use Rattle.model.specs.Written.{text-byte};
 ghost use Rattle.chars.specs.Table.{table};
 
@@ -41,6 +41,20 @@ pub fn is_digit(byte: u8) -> bool
     ensures { λ r. ⌜ r ≡ digit-byte byte ⌝ }
 {
     (b'0' <= byte) & (byte <= b'9')
+}
+
+// The kind of a text: 1, an integer, where every byte is a digit, and 2 for any other.
+pub fn kind_of(text: &[u8]) -> u32
+    ensures { λ r. ⌜ r ≡ kind-of-text (now (text .entry)) ⌝ }
+{
+    let mut i = 0;
+    while i < text.len() {
+        if !is_digit(text[i]) {
+            return 2;
+        }
+        i += 1;
+    }
+    1
 }
 
 // Whether a text may hold the byte: white, or from ! to ~ but none of & < >.

@@ -1,14 +1,16 @@
 -- Laws of lists: members, concatenating maps, ranges, pairs as numbers, ascending lists.
 use mathlib.Core.Path.{_≡_, refl, sym, ap, ap₂, _∙_, subst}
 use mathlib.Core.Logic.{_⊎_, inl, inr, _↔_}
-use mathlib.Core.Bool.{Bool, true, false}
+use mathlib.Core.Bool.{Bool, true, false, _&&_}
 use mathlib.Core.List.{List, [], _∷_, _++_, map, flatMap, append-assoc, List·Memᴰ·head, List·Memᴰ·tail, List·Memᴰ·not-nil, List·Memᴰ·cases-cons, List·Memᴰ·append-cases, List·Memᴰ·eq-of-singleton, Memᴰ·append-left, Memᴰ·append-right}
 use Prim.Native.Nat.{ℕ, zero, suc, _+_, _*_, _/_, _%_, _≤_, _<_}
 use native.Mathlib.Nat.{mul-le-mul-right}
+use native.Mathlib.Numerals.{add-one}
 use native.Mathlib.Omega.{arith}
 use lib.Arith.{digits-div, digits-mod}
 use lib.Dec.{eqb}
-use lib.ListN.{length, length-append}
+use lib.ListN.{length, getD, drop, length-append, drop-of-length-le}
+use lib.Seq.{drop-cons}
 use Rattle.model.specs.Lists.{_∈_, has, every, only, from, numbers, row, grid, Ascending, SetBelow}
 use Rattle.model.specs.Compose.{pair}
 use Rattle.model.proofs.Tests.{Yes, Told, yea, nay, told, never, and-yes, and-left, and-right, or-left, or-right, or-cases, same, eqb-yes}
@@ -63,6 +65,22 @@ pub every-both : {A : Type 0} (f : A → Bool) (l m : List A) → Yes (every f l
 unfolding every
 every-both f [] m t u = u
 every-both f (x ∷ l) m t u = let (a, b) = every-cons f x l t in and-yes a (every-both f l m b u)
+
+-- a test of every number, from place i on
+module _ (f : ℕ → Bool) (s : List ℕ) (i : ℕ) where
+  pub every-at : i < length s → every f (drop i s) ≡ (f (getD s i 0) && every f (drop (i + 1) s))
+  unfolding every
+  every-at h = rw (add-one, drop-cons s i 0 h)
+
+  pub every-yes : i < length s → f (getD s i 0) ≡ true → every f (drop i s) ≡ every f (drop (i + 1) s)
+  every-yes h e = every-at h ∙ rw e
+
+  pub every-no : i < length s → f (getD s i 0) ≡ false → every f (drop i s) ≡ false
+  every-no h e = every-at h ∙ rw e
+
+  pub every-end : length s ≤ i → every f (drop i s) ≡ true
+  unfolding every
+  every-end h = rw (drop-of-length-le s {i = i} h)
 
 -- ---- only
 

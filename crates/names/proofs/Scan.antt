@@ -61,19 +61,6 @@ module _ (s : List ℕ) (some : 0 < length s) where
   pub name-yes : letter-byte (getD s 0 0) ≡ true → is-name s ≡ every name-byte (drop 1 s)
   name-yes e = name-first s some ∙ rw e
 
-module _ (f : ℕ → Bool) (s : List ℕ) (i : ℕ) where
-  pub every-yes : i < length s → f (getD s i 0) ≡ true → every f (drop i s) ≡ every f (drop (i + 1) s)
-  unfolding every
-  every-yes h e = rw (here s i h, e)
-
-  pub every-no : i < length s → f (getD s i 0) ≡ false → every f (drop i s) ≡ false
-  unfolding every
-  every-no h e = rw (here s i h, e)
-
-  pub every-none : length s ≤ i → every f (drop i s) ≡ true
-  unfolding every
-  every-none h = rw (drop-of-length-le s h)
-
 -- ---- two lists of bytes
 
 module _ (a b : List ℕ) (i : ℕ) where

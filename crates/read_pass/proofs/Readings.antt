@@ -32,7 +32,8 @@ use Rattle.read_pass.specs.Reading.{Reads, ReadsAt, AtStartTag, InConten
 use Rattle.read_runs.specs.Runs.{run, class-within, first-class, trim}
 use Rattle.read_scan.specs.declared.Scan.{Scan}
 use Rattle.read_scan.specs.declared.Step.{Step}
-use Rattle.read_runs.proofs.RunLaws.{byte-there, no-white-run, run-within, name-run, name-first, name-length, text-run, kind-few}
+use Rattle.model.proofs.TextLaws.{kind-range}
+use Rattle.read_runs.proofs.RunLaws.{byte-there, no-white-run, run-within, name-run, name-first, name-length, text-run}
 use Rattle.read_names.proofs.TagLaws.{named-well, tag-named, tag-other}
 use Rattle.read_pass.proofs.Steps.{onward}
 use Rattle.read_pass.proofs.Tokens.{Waits, before-waits, blank-waits, start-gap-waits, end-gap-waits, after-waits, Leads, at-root}
@@ -395,7 +396,7 @@ module _ {list text words : List ℕ} {s : Scan} (r : ReadsAt list text words bl
               holds =
                   holds-text (r .holds) w kind span (omega (arith, r .room))
                   (ap unpacked word-is ∙ unpacked-packed (64 + kind) 1 (s .at) (end - s .at)
-                  (omega (arith, kind-few (take (end - s .at) (drop (s .at) text)))) (omega arith)
+                  (omega (arith, kind-range (take (end - s .at) (drop (s .at) text)))) (omega arith)
                   (omega (arith, r .within, r .short)));
               deep = r .deep;
               above = omega (arith, r .above);

@@ -10,12 +10,12 @@ use native.Mathlib.Decide.{decLt}
 use lib.Dec.{eqb, leb}
 use lib.ListN.{length, getD, take, drop, drop-of-length-le, length-drop}
 use lib.Seq.{drop-cons, take-suc, getD-drop, drop-drop, length-take-le}
-use borrow.Author.Tests.{eq-eqb, ne-eqb, lt-leb}
+use borrow.Author.Tests.{ne-eqb, lt-leb}
 use Rattle.model.specs.Lists.{every}
-use Rattle.model.specs.Bytes.{Class, white, letter, digit, hyphen, less, greater, slash, other, forbidden, class-number, is, class-of, letter-byte, digit-byte, name-byte, is-name, same-bytes, kind-of-text, within}
+use Rattle.model.specs.Bytes.{Class, white, letter, digit, hyphen, less, greater, slash, other, forbidden, class-number, is, class-of, letter-byte, name-byte, is-name, same-bytes, within}
 use Rattle.model.specs.Text.{name-at, trimmed, text-at}
 use Rattle.model.specs.Written.{text-byte}
-use Rattle.model.proofs.Tests.{Yes, never, and-yes, or-left, same, eqb-like}
+use Rattle.model.proofs.Tests.{Yes, never, and-yes, or-left, same}
 use Rattle.model.proofs.ByteLaws.{name-cons}
 use Rattle.model.proofs.NameLaws.{bytes-same}
 use Rattle.model.proofs.ListLaws.{every-cons}
@@ -131,45 +131,6 @@ within-by low high b k e = rw e
 pub text-by : (b k : ℕ) → k ≡ class-number (class-of b) → text-byte b ≡ ((not (eqb k 4) && not (eqb k 5)) && not (eqb k 8))
 unfolding text-byte is class-number
 text-by b k e = rw (e, and-assoc)
-
--- digits alone
-digit-class : (c : Class) → is c digit ≡ within 2 2 (class-number c)
-unfolding is class-number
-digit-class white = refl
-digit-class letter = refl
-digit-class digit = refl
-digit-class hyphen = refl
-digit-class less = refl
-digit-class greater = refl
-digit-class slash = refl
-digit-class other = refl
-digit-class forbidden = refl
-
-digits-run : (s : List ℕ) → every digit-byte s ≡ eqb (run (class-within 2 2) s) (length s)
-unfolding every digit-byte run class-within
-digits-run [] = refl
-digits-run (b ∷ s) = rw (digit-class (class-of b), digits-run s) (by (within 2 2 (class-number (class-of b))))
-  where
-    by : (t : Bool) → (t && eqb (run (class-within 2 2) s) (length s)) ≡ eqb (cond t (suc (run (class-within 2 2) s)) 0) (suc (length s))
-    by true = eqb-like (run (class-within 2 2) s) (length s) (suc (run (class-within 2 2) s)) (suc (length s)) (λ e. ap suc e) (λ e. omega arith)
-    by false = sym (ne-eqb 0 (suc (length s)) (omega arith))
-
-pub kind-few : (s : List ℕ) → kind-of-text s ≤ 2
-unfolding kind-of-text
-kind-few s = by (every digit-byte s)
-  where
-    by : (t : Bool) → cond t 1 2 ≤ 2
-    by true = omega arith
-    by false = omega arith
-
-module _ (s : List ℕ) (n : ℕ) (e : n ≡ 0 + run (class-within 2 2) (drop 0 s)) where
-  pub all-digits : n ≡ length s → kind-of-text s ≡ 1
-  unfolding kind-of-text
-  all-digits h = rw (digits-run s, eq-eqb (run (class-within 2 2) s) (length s) (omega arith))
-
-  pub not-all-digits : n ≢ length s → kind-of-text s ≡ 2
-  unfolding kind-of-text
-  not-all-digits h = rw (digits-run s, ne-eqb (run (class-within 2 2) s) (length s) (λ f. h (omega arith)))
 
 -- ---- names
 

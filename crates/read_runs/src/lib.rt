@@ -2,7 +2,7 @@
 ghost use mathlib.Core.Path.{_≡_};
 ghost use Prim.Native.Nat.{_+_, _-_, _≤_, _<_};
 ghost use lib.ListN.{length, take, drop};
-ghost use Rattle.model.specs.Bytes.{class-number, class-of, kind-of-text};
+ghost use Rattle.model.specs.Bytes.{class-number, class-of};
 ghost use Rattle.model.specs.Lists.{every};
 ghost use Rattle.model.specs.Written.{text-byte};
 ghost use Rattle.chars.specs.Table.{table};
@@ -153,16 +153,4 @@ pub fn trimmed_end(classes: &Classes, text: &[u8], at: usize, stop: usize) -> us
         end -= 1;
     }
     end
-}
-
-// The kind of a text: 1, digits only, or 2.
-pub fn kind_of(classes: &Classes, bytes: &[u8]) -> u64
-    requires { ⌜ now classes ≡ table ⌝ }
-    ensures is { λ r. ⌜ r ≡ kind-of-text (now (bytes .entry)) ⌝ }
-    ensures few { λ r. ⌜ r ≤ 2 ⌝ }
-{
-    if skip(classes, bytes, 0, chars::DIGIT, chars::DIGIT) == bytes.len() {
-        return 1;
-    }
-    2
 }

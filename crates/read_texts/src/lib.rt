@@ -11,7 +11,6 @@ use read_nodes::Words;
 use read_nodes::packed;
 use read_runs::Classes;
 use read_runs::class_at;
-use read_runs::kind_of;
 use read_runs::text_end;
 use read_runs::trimmed_end;
 use read_scan::MANY_NODES;
@@ -20,9 +19,7 @@ use read_scan::Step;
 use read_scan::on;
 use read_scan::refused;
 use read_scan::stopped;
-
-// The symbol of a text is this and its kind.
-const TEXT_SYMBOL: u64 = 64;
+use symbols::of_text;
 
 // A text, up to the < behind it. No list is looked at, so the promise is for any list.
 pub fn text_node(classes: &Classes, text: &[u8], s: Scan, words: &mut Words) -> Step
@@ -42,8 +39,8 @@ pub fn text_node(classes: &Classes, text: &[u8], s: Scan, words: &mut Words) -> 
         return stopped(class, stop);
     }
     let end = trimmed_end(classes, text, at, stop);
-    let kind = kind_of(classes, &text[at..end]);
-    words[node] = packed(TEXT_SYMBOL + kind, 1, at as u64, (end - at) as u64);
+    let symbol = of_text(chars::kind_of(&text[at..end]));
+    words[node] = packed(symbol as u64, 1, at as u64, (end - at) as u64);
     on(Scan {
         at: stop,
         top: s.top,

@@ -1,5 +1,5 @@
 -- The nodes of a document by the words of a tree, and the pass over them: 11, or the sum of what they add to the form.
-use mathlib.Core.Path.{_≡_, refl, _∙_}
+use mathlib.Core.Path.{_≡_, refl, sym, _∙_}
 use mathlib.Core.Logic.{_≢_}
 use mathlib.Core.Bool.{Bool, true, false, cond}
 use mathlib.Core.List.{List, [], _∷_, _++_}
@@ -7,18 +7,17 @@ use Prim.Native.Nat.{ℕ, suc, _+_, _-_, _*_, _≤_, _<_}
 use native.Mathlib.Nat.{add-zero}
 use native.Mathlib.Numerals.{add-one}
 use native.Mathlib.Omega.{arith}
-use borrow.Author.Tests.{lt-ltb, le-ltb}
 use lib.Dec.{eqb}
 use lib.ListN.{length}
 use Rattle.model.specs.Answers.{passes, refuses, _>>_}
 use Rattle.model.specs.Names.{names-of}
-use Rattle.model.specs.Tree.{Span, Element, text, tag, Document, ε, _·_, size, sizeD, nodes, nodesD, symbol-at, size-at, span-at, children}
+use Rattle.model.specs.Tree.{Span, Element, text, tag, Document, ε, _·_, size, sizeD, nodes, nodesD, symbol-at, size-at, span-at, of-tag, symbol-of, children}
 use Rattle.model.specs.Written.{good-words, texts-checked}
-use Rattle.model.proofs.NameLaws.{few-names}
+use Rattle.model.proofs.SymbolLaws.{text≢tag, tag-said}
 use Rattle.model.proofs.Tests.{Told, yea, nay, told, same, eqb-no}
 use Rattle.model.proofs.TreeLaws.{length-nodesD}
 use Rattle.names.specs.Lines.{Indexed}
-use Rattle.writer.specs.Nodes.{node-at, good-node, own-bytes, measured, Tag}
+use Rattle.writer.specs.Nodes.{node-at, good-by, good-node, own-bytes, measured, Tag, TagOf}
 use Rattle.writer.proofs.Lengths.{own, total}
 use Rattle.writer.proofs.NodeLaws.{own-text, own-empty, own-pair}
 use Rattle.writer.proofs.Standing.{First, a-text, an-element, first, some-size}
@@ -28,7 +27,7 @@ module _ (list starts source tree : List ℕ) where
   pub record Is (i : ℕ) (e : Element) : Type 0 where
     pub good : good-node source (node-at tree i) ≡ good-words source e
     pub adds : own-bytes list (node-at tree i) ≡ own list e
-    pub named : symbol-at tree i < 65 → Tag list starts (symbol-at tree i)
+    pub named : TagOf list starts (symbol-at tree i)
 
   -- the nodes from node i on are these elements
   abbrev pub Listed : ℕ → List Element → Type 0
@@ -40,7 +39,7 @@ module _ (list starts source tree : List ℕ) where
   listed-append i j (x ∷ es) fs e h k = (h .0, listed-append (i + 1) j es fs (omega arith) (h .1) k)
 
   -- what an element adds, by its size
-  adds-element : (i : ℕ) (c : Document) → symbol-at tree i < 65 → size-at tree i ≡ suc (sizeD c)
+  adds-element : (i : ℕ) (c : Document) → symbol-of (symbol-at tree i) ≡ of-tag (symbol-at tree i) → size-at tree i ≡ suc (sizeD c)
       → own-bytes list (node-at tree i) ≡ own list (tag (symbol-at tree i) (span-at tree i) c)
   unfolding own size
   adds-element i ε h z = own-empty list (node-at tree i) h z
@@ -52,23 +51,22 @@ module _ (list starts source tree : List ℕ) where
     Read d = (levels i end : ℕ) (after-text : Bool) → 4 * end ≤ length tree → children tree tags (length tree) levels i end after-text ≡ passes d → Listed i (nodesD d)
 
     text-listed : {levels i end k : ℕ} {w : Span} {d : Document} → 4 * end ≤ length tree → First tree tags levels i end (text k w · d) → Read d → Listed i (text k w ∷ nodesD d)
-    unfolding own good-node good-words
+    unfolding own good-node good-by good-words
     text-listed {levels} {i} {end} b (a-text lt s read) rest =
-        (record { good = rw (le-ltb _ _ s); adds = own-text list _ s; named = λ h. absurd (omega arith) }, rest levels (i + 1) end true b read)
+        (record { good = rw s; adds = own-text list _ s; named = λ a h. absurd (text≢tag (sym s ∙ h)) }, rest levels (i + 1) end true b read)
 
     element-listed : {levels i end a : ℕ} {w : Span} {c d : Document} → 4 * end ≤ length tree → First tree tags levels i end (tag a w c · d) → Read c → Read d
         → Listed i (tag a w c ∷ (nodesD c ++ nodesD d))
-    unfolding good-node good-words
-    element-listed {levels} {i} {end} {c = c} {d} b (an-element s few l z le inside after) content rest =
-        let below : symbol-at tree i < 65 = omega (arith, few-names list tags names) in (
-          record {
-            good = rw (lt-ltb _ _ below);
-            adds = adds-element i c below z;
-            named = λ h. record { tags = tags; names = names; index = index; some = s; few = few };
-          },
-          listed-append (i + 1) (i + size-at tree i) (nodesD c) (nodesD d) (omega (arith, length-nodesD c))
-              (content (levels - 1) (i + 1) (i + size-at tree i) false (omega arith) inside) (rest levels (i + size-at tree i) end false b after),
-        )
+    unfolding good-node good-by good-words
+    element-listed {levels} {i} {end} {c = c} {d} b (an-element s few l z le inside after) content rest = (
+      record {
+        good = rw s;
+        adds = adds-element i c s z;
+        named = λ a h. let (is, some, _) = tag-said _ h in record { tags = tags; names = names; index = index; some = some; few = omega arith };
+      },
+      listed-append (i + 1) (i + size-at tree i) (nodesD c) (nodesD d) (omega (arith, length-nodesD c))
+          (content (levels - 1) (i + 1) (i + size-at tree i) false (omega arith) inside) (rest levels (i + size-at tree i) end false b after),
+    )
 
     mutual
       unfolding nodes
@@ -97,10 +95,10 @@ module _ (list starts source tree : List ℕ) where
       go true r = r ∙ rw (add-one i, sums)
       go false r = refl
 
-  pub listed-named : (es : List Element) (i j : ℕ) → Listed i es → i ≤ j → j < i + length es → symbol-at tree j < 65 → Tag list starts (symbol-at tree j)
+  pub listed-named : (es : List Element) (i j : ℕ) → Listed i es → i ≤ j → j < i + length es → TagOf list starts (symbol-at tree j)
   listed-named [] i j h a b = absurd (omega arith)
   listed-named (e ∷ es) i j h a b = go (told (eqb i j)) (λ c. listed-named es (i + 1) j (h .1) c (omega arith))
     where
-      go : Told (eqb i j) → (i + 1 ≤ j → symbol-at tree j < 65 → Tag list starts (symbol-at tree j)) → symbol-at tree j < 65 → Tag list starts (symbol-at tree j)
+      go : Told (eqb i j) → (i + 1 ≤ j → TagOf list starts (symbol-at tree j)) → TagOf list starts (symbol-at tree j)
       go (yea q) r = let z = same i j q in rw (← z) (h .0 .named)
       go (nay q) r = let z : i ≢ j = eqb-no q in r (omega arith)

@@ -6,7 +6,7 @@ use Prim.Native.Nat.{ℕ, _+_, _-_, _≤_, _<_}
 use native.Mathlib.Omega.{arith}
 use lib.ListN.{length}
 use Rattle.model.specs.Names.{name-of}
-use Rattle.model.specs.Tree.{Document}
+use Rattle.model.specs.Tree.{Document, of-tag, symbol-of}
 use Rattle.model.specs.Written.{source-bytes, writtenD}
 use Rattle.writer.specs.Forms.{Put, empty-tag, start-tag, end-tag, Stands, Ready, Puts}
 use Rattle.writer.specs.Nodes.{node-at, span-of}
@@ -54,7 +54,7 @@ module _ {list starts source tree before buffer : List ℕ} {levels first end at
 
   -- ---- a text
 
-  module _ (k : 65 ≤ n .symbol) where
+  module _ (k : (a : ℕ) → symbol-of (n .symbol) ≢ of-tag a) where
     text-here : {d : Document} (l : Left list starts source tree levels end before at d buffer i o) → TextFirst list starts source tree levels i end (l .rest) n
     text-here l = text-first list starts source tree levels i end (l .rest) (l .stands) n (t .is) (t .within) k
 
@@ -76,14 +76,14 @@ module _ {list starts source tree before buffer : List ℕ} {levels first end at
 
   -- ---- an element
 
-  module _ (k : n .symbol < 65) where
-    pub element-here : {d : Document} (l : Left list starts source tree levels end before at d buffer i o) → ElementFirst list starts source tree levels i end (l .rest) n
+  module _ {a : ℕ} (k : symbol-of (n .symbol) ≡ of-tag a) where
+    pub element-here : {d : Document} (l : Left list starts source tree levels end before at d buffer i o) → ElementFirst list starts source tree levels i end (l .rest) n a
     element-here l = element-first list starts source tree levels i end (l .rest) (l .stands) n (t .is) (t .within) k
 
-    abbrev pub element : ElementFirst list starts source tree levels i end (left .rest) n
+    abbrev pub element : ElementFirst list starts source tree levels i end (left .rest) n a
     element = element-here left
 
-    module _ {name : List ℕ} (named : name ≡ name-of list (n .symbol)) where
+    module _ {name : List ℕ} (named : name ≡ name-of list a) where
       -- without content
 
       module _ (e : n .size ≡ 1) where

@@ -7,7 +7,7 @@ use lib.ListN.{length}
 use Rattle.model.specs.Names.{name-of}
 use Rattle.model.proofs.NameLaws.{few-names, name-short}
 use Rattle.names.proofs.IndexLaws.{Lies, name-lies}
-use Rattle.writer.specs.Nodes.{node-at, Tag, Tags}
+use Rattle.writer.specs.Nodes.{node-at, Tag, TagOf, Tags}
 use Rattle.writer.specs.declared.Node.{Node}
 
 module _ {list starts : List ℕ} {a : ℕ} (t : Tag list starts a) where
@@ -20,6 +20,6 @@ module _ {list starts : List ℕ} {a : ℕ} (t : Tag list starts a) where
   pub tag-short : length (name-of list a) ≤ 24
   tag-short = name-short list (t .tags) (t .names) a (t .some) (t .few)
 
--- the tag of node i
-pub node-tag : {list starts tree : List ℕ} {i : ℕ} {n : Node} → Tags list starts tree → i < length tree / 4 → n ≡ node-at tree i → n .symbol < 65 → Tag list starts (n .symbol)
-node-tag {i = i} t h is k = rw is (t .each i h (rw is at k))
+-- the tag of node i, where it is one
+pub node-tag : {list starts tree : List ℕ} {i : ℕ} {n : Node} → Tags list starts tree → i < length tree / 4 → n ≡ node-at tree i → TagOf list starts (n .symbol)
+node-tag {i = i} t h is = rw is (t .each i h)

@@ -3,16 +3,16 @@ use mathlib.Core.Path.{_≡_, refl, sym, _∙_}
 use mathlib.Core.Bool.{Bool, true, false, not, _&&_, _||_, and-assoc, and-true}
 use mathlib.Core.List.{List, [], _∷_}
 use Prim.Native.Nat.{ℕ, suc, _+_, _-_, _≤_, _<_}
-use native.Mathlib.Numerals.{add-one}
 use native.Mathlib.Omega.{arith}
 use borrow.Author.Tests.{leb-true}
 use lib.Dec.{leb}
-use lib.ListN.{length, getD, take, drop, length-drop, drop-of-length-le}
-use lib.Seq.{drop-cons, length-take-le}
+use lib.ListN.{length, getD, take, drop, length-drop}
+use lib.Seq.{length-take-le}
 use Rattle.model.specs.Bytes.{white, is, class-of}
 use Rattle.model.specs.Lists.{every}
 use Rattle.model.specs.Tree.{Span}
 use Rattle.model.specs.Written.{source-bytes, text-byte, solid-byte, trimmed-text, good-text}
+use Rattle.model.proofs.ListLaws.{every-at, every-end}
 use Rattle.model.proofs.Tests.{Yes, and-left}
 
 -- ---- bytes
@@ -30,29 +30,14 @@ module _ (source : List ℕ) (w : Span) where
   unfolding good-text
   good-within k h = leb-true _ _ (and-left (leb (w .start + w .bytes) (length source)) _ h)
 
--- ---- a test of every byte, from byte i on
+-- ---- a test of every byte, from byte i on, with a flag for the bytes before it
 
 module _ (f : ℕ → Bool) (s : List ℕ) (i : ℕ) where
-  every-at : i < length s → every f (drop i s) ≡ (f (getD s i 0) && every f (drop (i + 1) s))
-  unfolding every
-  every-at h = rw (add-one, drop-cons s i 0 h)
-
-  pub every-yes : i < length s → f (getD s i 0) ≡ true → every f (drop i s) ≡ every f (drop (i + 1) s)
-  every-yes h e = every-at h ∙ rw e
-
-  pub every-no : i < length s → f (getD s i 0) ≡ false → every f (drop i s) ≡ false
-  every-no h e = every-at h ∙ rw e
-
-  pub every-end : length s ≤ i → every f (drop i s) ≡ true
-  unfolding every
-  every-end h = rw (drop-of-length-le s {i = i} h)
-
-  -- the same with a flag for the bytes before byte i
   pub flag-next : (good : Bool) {all here : Bool} → all ≡ (good && every f (drop i s)) → i < length s → here ≡ f (getD s i 0) → all ≡ ((good && here) && every f (drop (i + 1) s))
-  flag-next good {here = here} e h t = e ∙ rw (every-at h, ← t) (sym (and-assoc good here _))
+  flag-next good {here = here} e h t = e ∙ rw (every-at f s i h, ← t) (sym (and-assoc good here _))
 
   pub flag-end : (good : Bool) {all : Bool} → all ≡ (good && every f (drop i s)) → length s ≤ i → all ≡ good
-  flag-end good e h = e ∙ rw (every-end h) (and-true good)
+  flag-end good e h = e ∙ rw (every-end f s i h) (and-true good)
 
 -- ---- trimmed texts
 

@@ -1,20 +1,19 @@
 // Writing a tree as a form: refusals 8, 1, 10, 11, 24 and 22, in that order, and then the bytes.
-use layout::INTEGER_TEXT;
 use layout::MOST_BYTES;
 use layout::MOST_LEVELS;
 use layout::NODE_WORDS;
-use layout::OTHER_TEXT;
 use model::Answer;
 use model::Refusal;
+use symbols::Symbol;
+use symbols::symbol_of;
 ghost use mathlib.Core.Path.{_≡_};
-ghost use Prim.Native.Nat.{_+_, _*_, _/_, _≤_, _<_};
+ghost use Prim.Native.Nat.{_+_, _*_, _/_, _≤_};
 ghost use lib.ListN.{length};
 ghost use Rattle.model.specs.Answers.{said, answer-of};
-ghost use Rattle.model.specs.Bytes.{kind-of-text};
 ghost use Rattle.model.specs.Calls.{write-said, write-out};
 ghost use Rattle.model.specs.Names.{name-of};
-ghost use Rattle.model.specs.Written.{source-bytes, trimmed-text};
-ghost use Rattle.writer.specs.Nodes.{node-at, span-of, good-node, own-bytes, measured, Tag, Tags};
+ghost use Rattle.model.specs.Written.{source-bytes, trimmed-text, good-text};
+ghost use Rattle.writer.specs.Nodes.{node-at, span-of, good-node, own-bytes, measured, Tag, TagOf, Tags};
 ghost use Rattle.writer.specs.Forms.{Put, empty-tag, start-tag, end-tag, Ready, Puts};
 
 // An index of names has an entry for where each begins, and one for where the last ends.
@@ -119,27 +118,21 @@ fn trimmed(s: &[u8]) -> bool
     good
 }
 
-// The symbol of a text, by its bytes.
-fn kind(s: &[u8]) -> u32
-    ensures { λ r. ⌜ r ≡ 64 + kind-of-text (now (s .entry)) ⌝ }
-{
-    let mut i = 0;
-    while i < s.len() {
-        if !chars::is_digit(s[i]) {
-            return OTHER_TEXT;
-        }
-        i += 1;
-    }
-    INTEGER_TEXT
-}
-
 // Whether the text words of a node are right: 0 at a tag, else those of a trimmed text of the node's kind.
 fn good_words(text: &[u8], node: Node) -> bool
     ensures { λ r. ⌜ r ≡ good-node (now (text .entry)) node ⌝ }
 {
-    if node.symbol < INTEGER_TEXT {
-        return (node.start == 0) & (node.bytes == 0);
+    match symbol_of(node.symbol) {
+        Symbol::Tag(_) => (node.start == 0) & (node.bytes == 0),
+        Symbol::Text(kind) => good_text(text, node, kind),
+        Symbol::Nothing => false,
     }
+}
+
+// Whether the text words of a node are those of a trimmed text of a kind.
+fn good_text(text: &[u8], node: Node, kind: u32) -> bool
+    ensures { λ r. ⌜ r ≡ good-text (now (text .entry)) kind (span-of node) ⌝ }
+{
     // a true sum: 64 bits hold that of two words
     let start = node.start as usize;
     let end = start + node.bytes as usize;
@@ -147,22 +140,25 @@ fn good_words(text: &[u8], node: Node) -> bool
         return false;
     }
     let s = &text[start..end];
-    trimmed(s) & (kind(s) == node.symbol)
+    trimmed(s) & (chars::kind_of(s) == kind)
 }
 
 // The bytes of the form that are a node's own: its tags, or its text.
 fn own_bytes(list: &[u8], starts: &[usize; ENTRIES], node: Node) -> usize
-    requires { ⌜ (node .symbol < 65 → Tag (now list) (now starts) (node .symbol)) ⌝ }
+    requires { ⌜ TagOf (now list) (now starts) (node .symbol) ⌝ }
     ensures { λ r. ⌜ r ≡ own-bytes (now (list .entry)) node ⌝ }
 {
-    if node.symbol < INTEGER_TEXT {
-        let name = name_of(list, starts, node.symbol);
-        if node.size == 1 {
-            return EMPTY_MARKS + name.len();
+    match symbol_of(node.symbol) {
+        Symbol::Tag(tag) => {
+            let name = name_of(list, starts, tag);
+            if node.size == 1 {
+                return EMPTY_MARKS + name.len();
+            }
+            PAIR_MARKS + 2 * name.len()
         }
-        return PAIR_MARKS + 2 * name.len();
+        Symbol::Text(_) => node.bytes as usize,
+        Symbol::Nothing => 0,
     }
-    node.bytes as usize
 }
 
 // The number of bytes of a tree's form, or the first node that 11 refuses, in one pass over the nodes.
@@ -260,8 +256,8 @@ fn put_children(
     let mut o = at;
     while i < end {
         let node = node_at(tree, i);
-        if node.symbol < INTEGER_TEXT {
-            let name = name_of(list, starts, node.symbol);
+        if let Symbol::Tag(tag) = symbol_of(node.symbol) {
+            let name = name_of(list, starts, tag);
             let next = i + node.size as usize;
             if node.size == 1 {
                 o = put_empty_tag(out, o, name);

@@ -7,7 +7,8 @@ use borrow.Author.Tests.{not-true, not-false}
 use lib.ListN.{length, drop}
 use Rattle.model.specs.Bytes.{is-name, name-byte}
 use Rattle.model.specs.Lists.{every}
-use Rattle.names.proofs.Scan.{name-none, name-no, name-yes, every-yes, every-no, every-none}
+use Rattle.model.proofs.ListLaws.{every-yes, every-no, every-end}
+use Rattle.names.proofs.Scan.{name-none, name-no, name-yes}
 use Rattle.names.proofs.is_name.Statement.{statement}
 use Rattle.names.proofs.is_name.Tie as tie
 
@@ -34,4 +35,4 @@ is-name-spec =
     (λ c. search needs)
     (λ c. search needs)
     (λ c. c .before .before .before .before .loop .inv ∙ every-yes _ _ _ (c .before .before .before .loop-test .taken) (sym (c .before .name-byte .ensures) ∙ not-false _ (c .if3 .left)))
-    (λ c. sym (c .before .loop .inv ∙ every-none _ _ _ (c .loop-test .left))))
+    (λ c. sym (c .before .loop .inv ∙ every-end _ _ _ (c .loop-test .left))))

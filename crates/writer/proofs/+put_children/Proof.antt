@@ -4,10 +4,12 @@ use native.Mathlib.Omega.{arith}
 use borrow.Fn.Kinds.{In}
 use borrow.Fn.PlainCycle.{Measures, is, falls, and}
 use borrow.Author.Needs.{needs}
+use Rattle.symbols.proofs.MeaningLaws.{means, tag-missed}
 use Rattle.writer.proofs.Loops.{Loop, loop-start, loop-end, Turn, text-asks, text-leaves, element, empty-asks, empty-leaves, start-asks, inside-asks, end-asks, full-leaves}
 use Rattle.writer.proofs.put_children.Reads as put-children
 use Rattle.writer.proofs.put_children.Kinds as put-children-kinds
 use Rattle.writer.proofs.+put_children.Lts-put_children as put-children-lts
+use Rattle.symbols.proofs.symbol_of.Reads as symbol-of-reads
 use Rattle.writer.proofs.name_of.Reads as name-of-reads
 use Rattle.writer.proofs.node_at.Reads as node-at-reads
 use Rattle.writer.proofs.put_empty_tag.Reads as put-empty-tag-reads
@@ -42,6 +44,8 @@ abbrev claims : ℕ → put-children-lts.Claims
 claims t = (
   node-at-reads.Asked,
   node-at-reads.Learnt,
+  symbol-of-reads.Asked,
+  symbol-of-reads.Learnt,
   name-of-reads.Asked,
   name-of-reads.Learnt,
   put-empty-tag-reads.Asked,
@@ -72,22 +76,27 @@ pub +put-children-spec : {M : Type 1} → statement M
 +put-children-spec = close μ-put-children λ t. put-children-lts.spec (claims t) (put-children-at t) put-children.Post put-children-Inv-loop put-children-μ-loop
     (λ c. loop-start)
     (λ c κs. omega (arith, c .before .before .before .before .before .before .pre .1 .stands .within))
-    (λ c κs. element (turn t (c .before .before)) (c .if1 .taken) .named)
+    (λ c κs. search needs)
     (λ c. search needs)
-    (λ c. omega (arith, element (turn t (c .before .before .before .before)) (c .before .before .if1 .taken) .ends))
-    (λ c κs. empty-asks (turn t (c .before .before .before .before .before .before .before)) (c .before .before .before .before .before .if1 .taken) (c .before .before .before .before .name-of .ensures) (c .before .if2 .taken))
-    (λ c. omega (arith, element (turn t (c .before .before .before .before .before .before .before .before .before .before)) (c .before .before .before .before .before .before .before .before .if1 .taken) .sized))
-    (λ c. empty-leaves (turn t (c .before .before .before .before .before .before .before .before .before .before)) (c .before .before .before .before .before .before .before .before .if1 .taken) (c .before .before .before .before .before .before .before .name-of .ensures) (c .before .before .before .before .if2 .taken) (c .before .before .put-empty-tag .ensures))
-    (λ c κs. start-asks (turn t (c .before .before .before .before .before .before .before)) (c .before .before .before .before .before .if1 .taken) (c .before .before .before .before .name-of .ensures) (c .before .if2 .left))
-    (λ c. omega (arith, element (turn t (c .before .before .before .before .before .before .before .before .before .before .before)) (c .before .before .before .before .before .before .before .before .before .if1 .taken) .deep))
+    (λ c κs. element (turn t (c .before .before .before .before)) (means (c .before .before .before .symbol-of .ensures) (c .before .tag .given .1)) .named)
     (λ c. search needs)
-    (λ c κs. (omega (arith, element (turn t (c .before .before .before .before .before .before .before .before .before .before .before)) (c .before .before .before .before .before .before .before .before .before .if1 .taken) .deep, c .before .before .before .before .before .before .before .before .before .before .before .before .before .before .before .before .before .before .pre .0), inside-asks (turn t (c .before .before .before .before .before .before .before .before .before .before .before)) (c .before .before .before .before .before .before .before .before .before .if1 .taken) (c .before .before .before .before .before .before .before .before .name-of .ensures) (c .before .before .before .before .before .if2 .left) (c .before .before .before .put-start-tag .ensures)))
-    (λ c κs. end-asks (turn t (c .before .before .before .before .before .before .before .before .before .before .before .before .before .before .before)) (c .before .before .before .before .before .before .before .before .before .before .before .before .before .if1 .taken) (c .before .before .before .before .before .before .before .before .before .before .before .before .name-of .ensures) (c .before .before .before .before .before .before .before .before .before .if2 .left) (c .before .before .before .before .before .before .before .put-start-tag .ensures) (c .before .before .before .put-children .ensures))
-    (λ c. omega (arith, element (turn t (c .before .before .before .before .before .before .before .before .before .before .before .before .before .before .before .before .before .before)) (c .before .before .before .before .before .before .before .before .before .before .before .before .before .before .before .before .if1 .taken) .sized))
-    (λ c. full-leaves (turn t (c .before .before .before .before .before .before .before .before .before .before .before .before .before .before .before .before .before .before)) (c .before .before .before .before .before .before .before .before .before .before .before .before .before .before .before .before .if1 .taken) (c .before .before .before .before .before .before .before .before .before .before .before .before .before .before .before .name-of .ensures) (c .before .before .before .before .before .before .before .before .before .before .before .before .if2 .left) (c .before .before .before .before .before .before .before .before .before .before .put-start-tag .ensures) (c .before .before .before .before .before .before .put-children .ensures) (c .before .before .put-end-tag .ensures))
-    (λ c κs. text-asks (turn t (c .before .before .before)) (c .before .if1 .left))
+    (λ c. omega (arith, element (turn t (c .before .before .before .before .before .before)) (means (c .before .before .before .before .before .symbol-of .ensures) (c .before .before .before .tag .given .1)) .ends))
+    (λ c κs. empty-asks (turn t (c .before .before .before .before .before .before .before .before .before)) (means (c .before .before .before .before .before .before .before .before .symbol-of .ensures) (c .before .before .before .before .before .before .tag .given .1)) (c .before .before .before .before .name-of .ensures) (c .before .if1 .taken))
+    (λ c. omega (arith, element (turn t (c .before .before .before .before .before .before .before .before .before .before .before .before)) (means (c .before .before .before .before .before .before .before .before .before .before .before .symbol-of .ensures) (c .before .before .before .before .before .before .before .before .before .tag .given .1)) .sized))
+    (λ c. empty-leaves (turn t (c .before .before .before .before .before .before .before .before .before .before .before .before)) (means (c .before .before .before .before .before .before .before .before .before .before .before .symbol-of .ensures) (c .before .before .before .before .before .before .before .before .before .tag .given .1)) (c .before .before .before .before .before .before .before .name-of .ensures) (c .before .before .before .before .if1 .taken) (c .before .before .put-empty-tag .ensures))
+    (λ c κs. start-asks (turn t (c .before .before .before .before .before .before .before .before .before)) (means (c .before .before .before .before .before .before .before .before .symbol-of .ensures) (c .before .before .before .before .before .before .tag .given .1)) (c .before .before .before .before .name-of .ensures) (c .before .if1 .left))
+    (λ c. omega (arith, element (turn t (c .before .before .before .before .before .before .before .before .before .before .before .before .before)) (means (c .before .before .before .before .before .before .before .before .before .before .before .before .symbol-of .ensures) (c .before .before .before .before .before .before .before .before .before .before .tag .given .1)) .deep))
+    (λ c. search needs)
+    (λ c κs. (
+      omega (arith, element (turn t (c .before .before .before .before .before .before .before .before .before .before .before .before .before)) (means (c .before .before .before .before .before .before .before .before .before .before .before .before .symbol-of .ensures) (c .before .before .before .before .before .before .before .before .before .before .tag .given .1)) .deep, c .before .before .before .before .before .before .before .before .before .before .before .before .before .before .before .before .before .before .before .before .pre .0),
+      inside-asks (turn t (c .before .before .before .before .before .before .before .before .before .before .before .before .before)) (means (c .before .before .before .before .before .before .before .before .before .before .before .before .symbol-of .ensures) (c .before .before .before .before .before .before .before .before .before .before .tag .given .1)) (c .before .before .before .before .before .before .before .before .name-of .ensures) (c .before .before .before .before .before .if1 .left) (c .before .before .before .put-start-tag .ensures),
+    ))
+    (λ c κs. end-asks (turn t (c .before .before .before .before .before .before .before .before .before .before .before .before .before .before .before .before .before)) (means (c .before .before .before .before .before .before .before .before .before .before .before .before .before .before .before .before .symbol-of .ensures) (c .before .before .before .before .before .before .before .before .before .before .before .before .before .before .tag .given .1)) (c .before .before .before .before .before .before .before .before .before .before .before .before .name-of .ensures) (c .before .before .before .before .before .before .before .before .before .if1 .left) (c .before .before .before .before .before .before .before .put-start-tag .ensures) (c .before .before .before .put-children .ensures))
+    (λ c. omega (arith, element (turn t (c .before .before .before .before .before .before .before .before .before .before .before .before .before .before .before .before .before .before .before .before)) (means (c .before .before .before .before .before .before .before .before .before .before .before .before .before .before .before .before .before .before .before .symbol-of .ensures) (c .before .before .before .before .before .before .before .before .before .before .before .before .before .before .before .before .before .tag .given .1)) .sized))
+    (λ c. full-leaves (turn t (c .before .before .before .before .before .before .before .before .before .before .before .before .before .before .before .before .before .before .before .before)) (means (c .before .before .before .before .before .before .before .before .before .before .before .before .before .before .before .before .before .before .before .symbol-of .ensures) (c .before .before .before .before .before .before .before .before .before .before .before .before .before .before .before .before .before .tag .given .1)) (c .before .before .before .before .before .before .before .before .before .before .before .before .before .before .before .name-of .ensures) (c .before .before .before .before .before .before .before .before .before .before .before .before .if1 .left) (c .before .before .before .before .before .before .before .before .before .before .put-start-tag .ensures) (c .before .before .before .before .before .before .put-children .ensures) (c .before .before .put-end-tag .ensures))
+    (λ c κs. text-asks (turn t (c .before .before .before)) (tag-missed (c .before .before .symbol-of .result) (c .before .before .symbol-of .ensures) (c .before .match .keys2)))
     (λ c. search needs)
     (λ c. search needs)
-    (λ c. text-leaves (turn t (c .before .before .before .before .before .before)) (c .before .before .before .before .if1 .left) (c .before .before .put-text .ensures))
+    (λ c. text-leaves (turn t (c .before .before .before .before .before .before)) (tag-missed (c .before .before .before .before .before .symbol-of .result) (c .before .before .before .before .before .symbol-of .ensures) (c .before .before .before .before .match .keys2)) (c .before .before .put-text .ensures))
     (λ c. c .before .loop .inv .kept)
     (λ c. loop-end (c .before .loop .inv) (c .loop-test .left))

@@ -24,7 +24,7 @@ abbrev μ-loop : tie.MeasureT-loop
 below : (c : tie.After-own-bytes Inv-loop μ-loop) → c .own-bytes .result < 4294967296
 below c =
     let tag = node-tag (c .before .before .before .before .before .before .before .before .before .pre) (c .before .before .before .before .loop-test .taken) (c .before .before .before .node-at .ensures) in
-    omega (arith, c .own-bytes .ensures, own-bound (c .before .before .before .before .before .before .before .before .before .args .list .now) (c .before .before .before .node-at .result) (omega arith) (λ h. tag-short (tag h)))
+    omega (arith, c .own-bytes .ensures, own-bound (c .before .before .before .before .before .before .before .before .before .args .list .now) (c .before .before .before .node-at .result) (omega arith) (λ a h. tag-short (tag a h)))
 
 pub measure-spec : {M : Type 1} → statement M
 unfolding said said-refusal answer-of

@@ -1,4 +1,4 @@
--- `writer::kind` meets its contract: a byte that is no digit decides.
+-- `chars::kind_of` meets its contract: a byte that is no digit decides.
 use mathlib.Core.Path.{_≡_, refl, sym, _∙_}
 use Prim.Native.Nat.{_-_, _≤_}
 use borrow.Author.Tests.{not-true, not-false}
@@ -6,9 +6,9 @@ use borrow.Author.Needs.{needs}
 use lib.ListN.{length, drop}
 use Rattle.model.specs.Bytes.{digit-byte, kind-of-text}
 use Rattle.model.specs.Lists.{every}
-use Rattle.writer.proofs.TextLaws.{every-yes, every-no, every-end}
-use Rattle.writer.proofs.kind.Statement.{statement}
-use Rattle.writer.proofs.kind.Tie as tie
+use Rattle.model.proofs.ListLaws.{every-yes, every-no, every-end}
+use Rattle.chars.proofs.kind_of.Statement.{statement}
+use Rattle.chars.proofs.kind_of.Tie as tie
 
 abbrev Inv-loop : tie.InvT-loop
 Inv-loop s i₀ i = (i ≤ length s) × (every digit-byte s ≡ every digit-byte (drop i s))
@@ -16,9 +16,9 @@ Inv-loop s i₀ i = (i ≤ length s) × (every digit-byte s ≡ every digit-byte
 abbrev μ-loop : tie.MeasureT-loop
 μ-loop s i₀ i = length s - i
 
-pub kind-spec : {M : Type 1} → statement M
+pub kind-of-spec : {M : Type 1} → statement M
 unfolding kind-of-text
-kind-spec =
+kind-of-spec =
     tie.close
     (tie.spec
     Inv-loop
