@@ -1,31 +1,37 @@
 -- What the public calls say and leave in the lent buffer, by the checks on the way.
 use mathlib.Core.Path.{_≡_, refl, sym, ap, _∙_, subst}
 use mathlib.Core.Logic.{_≢_}
-use mathlib.Core.List.{List}
+use mathlib.Core.List.{List, _++_}
 use Prim.Native.Nat.{ℕ, _+_, _≤_, _<_, min}
 use native.Mathlib.Omega.{arith}
-use lib.ListN.{length, getD}
+use lib.Dec.{leb}
+use lib.ListN.{length, getD, drop}
+use lib.Seq.{drop-at}
 use borrow.Author.Tests as tests
 use Rattle.model.specs.declared.Answer.{Answer}
 use Rattle.model.specs.declared.Answer.the-variants.{Count, Error}
 use Rattle.model.specs.declared.Refusal.{Refusal}
 use Rattle.model.specs.declared.Refusal.the-variants as refusals
-use Rattle.model.specs.declared.Refusal.the-variants.{LongText, ForbiddenByte, Syntax, UnknownName, OtherName, Depth, ManyNodes, NameList, Tree, TextWords, TagCounts, JointLimit, ShortBuffer, TwoStates, LongForm}
-use Rattle.model.specs.Answers.{Said, count, refusal, said, said-refusal, Checked, passes, refuses, _>>=_, _>>_, require, room-for, answer-of, buffer-after}
+use Rattle.model.specs.declared.Refusal.the-variants.{LongText, ForbiddenByte, Syntax, UnknownName, OtherName, Depth, ManyNodes, NameList, Tree, TextWords}
+use Rattle.model.specs.declared.Refusal.the-variants.{TagCounts, JointLimit, ShortBuffer, TwoStates, LongForm}
+use Rattle.model.specs.Answers.{Said, count, refusal, said, said-refusal, Checked, passes, refuses, _>>=_, _>>_, require, room-for}
+use Rattle.model.specs.Answers.{answer-of, buffer-after}
 use Rattle.model.specs.Sheet.{Sheet, sheet-words, sheet-of}
 use Rattle.model.specs.Compose.{swapped, joint, within-limits}
+use Rattle.model.specs.Index.{sheet-in, Passes, index-words, index-after, Indexed}
 use Rattle.model.specs.Calls.{sheet-said, swap, swap-said, swap-out, in-second, joined, join, join-said, join-out}
-use Rattle.model.proofs.SheetCode.{sheet-passes}
+use Rattle.model.proofs.Tests.{Told, yea, nay, told}
 use Rattle.model.proofs.SwapLaws.{swapped-words}
-use Rattle.model.proofs.Answered.{sheet-counted, sheet-refused}
-use Rattle.compose.specs.Page.{Writes}
-use Rattle.compose.specs.Parts.{Passed}
+use Rattle.model.proofs.Answered.{refusal-says, sheet-counted, sheet-refused}
+use Rattle.model.proofs.PassedLaws.{passes-in, coded, few-words, tags-word}
 use Rattle.sheet.proofs.Over.{refused-place}
-use Rattle.compose.specs.Limits.{first-place}
-use Rattle.compose.specs.Joins.{lent, fitted, limited, Gives}
-use Rattle.compose.proofs.PageLaws.{counted, front}
-use Rattle.compose.proofs.SheetWords.{tags-word}
-use Rattle.compose.proofs.LimitLaws.{limits-over, limits-within}
+use Rattle.page.specs.Page.{Writes}
+use Rattle.page.specs.Limits.{words-said}
+use Rattle.page.proofs.PageLaws.{counted, front}
+use Rattle.page.proofs.LimitLaws.{words-over, words-short, words-within}
+use Rattle.join_limits.specs.Limits.{first-place}
+use Rattle.compose.specs.Joins.{lent, fitted, limited, Gives, Limits}
+use Rattle.compose.proofs.LimitChecks.{limits-over, limits-within}
 
 -- ---- a call that lends words their room
 
@@ -52,12 +58,20 @@ module _ (out : List ℕ) {c : Checked (List ℕ)} where
 
 -- ---- a sheet's check
 
-sheet-passed : (ws : List ℕ) {s : Sheet} → sheet-of ws ≡ passes s → Passed ws s
-sheet-passed ws {s} e = let (w, r) = sheet-passes ws s .0 e in record { words = w; ranges = r }
-
 -- by its answer
-pub sheet-counts : (ws : List ℕ) {r : Answer} {n : ℕ} → said r ≡ sheet-said ws → r ≡ Count n → (s : Sheet) × Passed ws s
-sheet-counts ws e c = let (_, (s, p)) = sheet-counted ws e c in (s, sheet-passed ws p)
+pub sheet-counts : (s : List ℕ) {r : Answer} {n : ℕ} → said r ≡ sheet-said s → r ≡ Count n → Passes s × (n ≡ length s)
+sheet-counts s e c = let (l, (t, p)) = sheet-counted s e c in (passes-in p .0, l)
+
+-- a sheet that passes has its index at the front of the buffer
+pub sheet-indexed : (s old : List ℕ) {index : List ℕ} {r : Answer} {n : ℕ} → said r ≡ sheet-said s → index ≡ index-after old s → r ≡ Count n → Indexed s index
+unfolding index-after buffer-after _>>=_
+sheet-indexed s old {index} e ei c =
+    let ok = sheet-counts s e c .0 in
+    let ws = index-words (sheet-in s) in
+    let is : index ≡ ws ++ drop (length ws) old
+    = ei ∙ ap (λ (x : Checked Sheet). buffer-after old (x >>= λ t. passes (index-words t))) (ok .as-sheet) in
+    let rest : drop (length ws) index ≡ drop (length ws) old = ap (drop (length ws)) is ∙ drop-at ws (drop (length ws) old) (length ws) refl in
+    record { sheet = ok; there = record { stands = is ∙ ap (λ (l : List ℕ). ws ++ l) (sym rest); ends = omega arith } }
 
 -- ---- swap
 
@@ -83,42 +97,84 @@ module _ (sheet out : List ℕ) where
 
   -- n is the number of words of the sheet, and of its swapped sheet
   module _ {r : Answer} {n : ℕ} (e : said r ≡ sheet-said sheet) (c : r ≡ Count n) where
-    pub swap-short : length out < n → Swaps (refusal 22 n) out
-    swap-short h =
-        let (l, (s, p)) = sheet-counted sheet e c in
-        let size : length (sheet-words (swapped s)) ≡ n = omega (arith, swapped-words s, ap length (sheet-passed sheet p .words)) in
-        rw size at (swaps (gives-short out (sheet-words (swapped s)) (swap-lends sheet (length out) p) (rw size h)))
+    ok : Passes sheet
+    ok = sheet-counts sheet e c .0
 
-    pub swap-written : {y : List ℕ} {i : ℕ} → n ≤ length out → ((s : Sheet) → Passed sheet s → Writes out 0 (sheet-words (swapped s)) y i) → Swaps (count i) y
+    size : length (sheet-words (swapped (sheet-in sheet))) ≡ n
+    size = omega (arith, sheet-counts sheet e c .1, swapped-words (sheet-in sheet), ap length (coded ok))
+
+    lends : swap sheet (length out) ≡ lent (sheet-words (swapped (sheet-in sheet))) (length out)
+    lends = swap-lends sheet (length out) (ok .as-sheet)
+
+    pub swap-short : length out < n → Swaps (refusal 22 n) out
+    swap-short h = rw size at (swaps (gives-short out (sheet-words (swapped (sheet-in sheet))) lends (rw size h)))
+
+    pub swap-written : {y : List ℕ} {i : ℕ} → n ≤ length out → Writes out 0 (sheet-words (swapped (sheet-in sheet))) y i → Swaps (count i) y
     swap-written h w =
-        let (l, (s, p)) = sheet-counted sheet e c in
-        let ok = sheet-passed sheet p in
-        let size = swapped-words s in
-        let words = ap length (ok .words) in
-        swaps (gives-words out (sheet-words (swapped s)) (swap-lends sheet (length out) p) (omega (arith, ok .ranges .few-words)) (omega arith) (w s ok))
+        swaps (gives-words out (sheet-words (swapped (sheet-in sheet))) lends (omega (arith, size, sheet-counts sheet e c .1, few-words ok .1)) (omega (arith, size)) w)
 
 -- ---- join: a joint sheet with few states
 
 module _ (j : Sheet) (out : List ℕ) where
   -- n is the number of its words, up to one more than the most
   module _ {n : ℕ} (e : n ≡ min (length (sheet-words j)) 16385) where
-    pub fitted-over : 16384 < n → Gives out (fitted j (length out)) (refusal 21 6) out
+    fitted-over : 16384 < n → Gives out (fitted j (length out)) (refusal 21 6) out
     unfolding require _>>_
     fitted-over h = gives-refusal out (rw (tests.lt-leb (length (sheet-words j)) 16384 (omega arith)))
 
     module _ (h : n ≤ 16384) where
-      size : length (sheet-words j) ≡ n
-      size = omega arith
+      long : length (sheet-words j) ≡ n
+      long = omega arith
 
       fits : fitted j (length out) ≡ lent (sheet-words j) (length out)
       unfolding require _>>_
-      fits = rw (tests.le-leb (length (sheet-words j)) 16384 (omega (arith, size)))
+      fits = rw (tests.le-leb (length (sheet-words j)) 16384 (omega (arith, long)))
 
-      pub fitted-short : length out < n → Gives out (fitted j (length out)) (refusal 22 n) out
-      fitted-short l = subst (λ (m : ℕ). Gives out (fitted j (length out)) (refusal 22 m) out) size (gives-short out (sheet-words j) fits (rw size l))
+      fitted-short : length out < n → Gives out (fitted j (length out)) (refusal 22 n) out
+      fitted-short l = subst (λ (m : ℕ). Gives out (fitted j (length out)) (refusal 22 m) out) long (gives-short out (sheet-words j) fits (rw long l))
 
-      pub fitted-words : {y : List ℕ} {i : ℕ} → n ≤ length out → Writes out 0 (sheet-words j) y i → Gives out (fitted j (length out)) (count i) y
-      fitted-words l w = gives-words out (sheet-words j) fits (omega (arith, size)) (omega (arith, size)) w
+      fitted-long : {y : List ℕ} {i : ℕ} → n ≤ length out → Writes out 0 (sheet-words j) y i → Gives out (fitted j (length out)) (count i) y
+      fitted-long l w = gives-words out (sheet-words j) fits (omega (arith, long)) (omega (arith, long)) w
+
+    -- q is the answer of the check of n
+    module _ {q : Answer} (f : said q ≡ words-said n (length out)) where
+      pub fitted-refused : {x : Refusal} → q ≡ Error x → Gives out (fitted j (length out)) (said-refusal x) out
+      unfolding said
+      fitted-refused {x} c = go (told (leb n 16384)) (told (leb n (length out)))
+        where
+          says : said-refusal x ≡ words-said n (length out)
+          says = sym (ap said c) ∙ f
+
+          go : Told (leb n 16384) → Told (leb n (length out)) → Gives out (fitted j (length out)) (said-refusal x) out
+          go (nay t) _ = let l = tests.leb-false n 16384 t in rw (says ∙ sym (words-over n (length out) l)) (fitted-over l)
+          go (yea t) (nay s) =
+              let few = tests.leb-true n 16384 t in
+              let l = tests.leb-false n (length out) s in
+              rw (says ∙ sym (words-short n (length out) few l)) (fitted-short few l)
+          go (yea t) (yea s) =
+              let (m, i, r) = refusal-says x in
+              let same : refusal m i ≡ count n
+              = sym r ∙ says ∙ sym (words-within n (length out) (tests.leb-true n 16384 t) (tests.leb-true n (length out) s)) in
+              let z : _≡_ {A = ℕ} 0 1 = cc same in
+              absurd (omega arith)
+
+      pub fitted-words : {k : ℕ} → q ≡ Count k → {y : List ℕ} {i : ℕ} → Writes out 0 (sheet-words j) y i → Gives out (fitted j (length out)) (count i) y
+      unfolding said
+      fitted-words {k} c {y} {i} w = go (told (leb n 16384)) (told (leb n (length out)))
+        where
+          says : count k ≡ words-said n (length out)
+          says = sym (ap said c) ∙ f
+
+          go : Told (leb n 16384) → Told (leb n (length out)) → Gives out (fitted j (length out)) (count i) y
+          go (nay t) _ =
+              let same : count k ≡ refusal 21 6 = says ∙ sym (words-over n (length out) (tests.leb-false n 16384 t)) in
+              let z : _≡_ {A = ℕ} 0 1 = cc same in
+              absurd (omega arith)
+          go (yea t) (nay s) =
+              let same : count k ≡ refusal 22 n = says ∙ sym (words-short n (length out) (tests.leb-true n 16384 t) (tests.leb-false n (length out) s)) in
+              let z : _≡_ {A = ℕ} 0 1 = cc same in
+              absurd (omega arith)
+          go (yea t) (yea s) = fitted-long (tests.leb-true n 16384 t) (tests.leb-true n (length out) s) w
 
   pub limited-states : 64 < j .states → Gives out (limited j (length out)) (refusal 21 1) out
   unfolding within-limits require _>>_
@@ -169,31 +225,23 @@ module _ (first second out : List ℕ) where
   pub first-refused : {r : Answer} {x : Refusal} → said r ≡ sheet-said first → r ≡ Error x → Joined (said-refusal x) out
   first-refused e c = let (i, p, f) = sheet-refused first e c in rw f (joins (gives-refusal out (join-first first second (length out) p)))
 
-  module _ {q : Answer} {m : ℕ} (d : said q ≡ sheet-said first) (b : q ≡ Count m) where
+  module _ (h : Passes first) where
     pub second-refused : (z : Refusal) {r : Answer} {x : Refusal} → said r ≡ sheet-said second → r ≡ Error x
         → ((i : ℕ) → said-refusal x ≡ refusal 9 i → said-refusal z ≡ refusal 9 (i + 20000)) → Joined (said-refusal z) out
-    second-refused z e c h =
-        let (_, (s, p)) = sheet-counted first d b in
+    second-refused z e c k =
         let (i, r, f) = sheet-refused second e c in
-        rw (h i f) (joins (gives-refusal out (join-second first second (length out) p r)))
+        rw (k i f) (joins (gives-refusal out (join-second first second (length out) (h .as-sheet) r)))
 
-    module _ {r : Answer} {n : ℕ} (e : said r ≡ sheet-said second) (c : r ≡ Count n) where
-      pub tags-refused : getD first 4 0 ≢ getD second 4 0 → Joined (refusal 20 (getD second 4 0)) out
-      tags-refused h =
-          let (_, (s, p)) = sheet-counted first d b in
-          let (_, (t, q)) = sheet-counted second e c in
-          let g = tags-word (sheet-passed first p) in
-          let k = tags-word (sheet-passed second q) in
-          rw k (joins (gives-refusal out (join-tags first second (length out) p q (λ f. h (g ∙ f ∙ sym k)))))
+    module _ (k : Passes second) {a b : ℕ} (ea : a ≡ getD first 4 0) (eb : b ≡ getD second 4 0) where
+      pub tags-refused : {g : ℕ} → g ≡ b → a ≢ b → Joined (refusal 20 g) out
+      tags-refused eg d =
+          let other : sheet-in first .tags ≢ sheet-in second .tags = λ e. d (ea ∙ tags-word h ∙ e ∙ sym (tags-word k) ∙ sym eb) in
+          rw (eg ∙ eb ∙ tags-word k) (joins (gives-refusal out (join-tags first second (length out) (h .as-sheet) (k .as-sheet) other)))
 
-      pub join-written : {x : Said} {y : List ℕ} → getD first 4 0 ≡ getD second 4 0
-          → ((s t : Sheet) → Passed first s → Passed second t → Gives out (limited (joint s t) (length out)) x y) → Joined x y
-      join-written h w =
-          let (_, (s, p)) = sheet-counted first d b in
-          let (_, (t, q)) = sheet-counted second e c in
-          let ps = sheet-passed first p in
-          let pt = sheet-passed second q in
-          joins (gives-by (join-checks first second (length out) p q (sym (tags-word ps) ∙ h ∙ tags-word pt)) (w s t ps pt))
+      pub join-written : {x : Said} {y : List ℕ} → a ≡ b → Limits first second out x y → Joined x y
+      join-written e w =
+          let same = sym (tags-word h) ∙ sym ea ∙ e ∙ eb ∙ tags-word k in
+          joins (gives-by (join-checks first second (length out) (h .as-sheet) (k .as-sheet) same) w)
 
 -- ---- join: a refusal of T's words
 

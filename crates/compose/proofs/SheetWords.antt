@@ -1,20 +1,31 @@
--- The words of a sheet that passed, and those of its swapped sheet.
-use mathlib.Core.Path.{_≡_, sym, ap, _∙_}
+-- The words of a swapped sheet, and those of a joint sheet before its rules, by the words of sheets that pass.
+use mathlib.Core.Path.{_≡_, sym, ap, ap₂, _∙_}
 use mathlib.Core.Bool.{Bool, not}
 use mathlib.Core.List.{List, [], _∷_, _++_, flatMap}
-use Prim.Native.Nat.{ℕ, _+_, _*_, _/_, _%_, _^_, _≤_, _<_}
+use Prim.Native.Nat.{ℕ, _+_, _*_, _/_, _%_, _≤_, _<_, min}
 use native.Mathlib.Omega.{arith}
 use lib.ListN.{length, getD, drop}
 use lib.Seq.{slice, take-length}
 use Rattle.model.specs.Lists.{has, only, numbers}
 use Rattle.model.specs.Sheet.{Sheet, W, mask, set-words, sheet-words}
-use Rattle.model.specs.Compose.{swapped}
+use Rattle.model.specs.Compose.{swapped, joint}
+use Rattle.model.specs.Index.{sheet-in, Passes, Indexed}
 use Rattle.model.proofs.Tests.{Told, yea, nay, told}
 use Rattle.model.proofs.ListLaws.{∈-has, has-no, ∈-filter}
-use Rattle.model.proofs.SetWords.{mask-<}
+use Rattle.model.proofs.SetWords.{bit-mask}
+use Rattle.model.proofs.PassedLaws.{coded, in-range, states-word, final-words, tags-word}
 use Rattle.bits.proofs.BitLaws.{mask-like}
-use Rattle.compose.specs.Parts.{Passed}
-use Rattle.compose.proofs.SetLaws.{turned-is}
+use Rattle.page.specs.Sets.{complement, pair-set}
+use Rattle.page.proofs.SetLaws.{few-pairs, pairs-mask}
+use Rattle.join_pairs.proofs.NumberLaws.{mul-le}
+use Rattle.join_alike.specs.Alike.{joint-rules-in, Joinable}
+use Rattle.join_rules.specs.Written.{joint-words}
+use Rattle.join_limits.specs.declared.Tally.{Tally}
+use Rattle.join_limits.specs.Limits.{LimitOf}
+use Rattle.compose.specs.Joins.{joint-in, BothPass, WithinLimits, final-in, head-words}
+use Rattle.compose.proofs.LimitChecks.{within-few}
+
+-- ---- swap
 
 -- of the numbers below k that pass a test, one is a member if it passes
 has-filter : (f : ℕ → Bool) (k i : ℕ) → i < k → has (flatMap (λ i. only (f i) i) (numbers k)) i ≡ f i
@@ -24,43 +35,100 @@ has-filter f k i h = go (told (f i))
     go (yea t) = ∈-has (∈-filter f k i .1 (h, t)) ∙ sym t
     go (nay t) = has-no (λ m. let z : _≡_ {A = ℕ} 0 1 = cc (∈-filter f k i .0 m .1) in omega arith) ∙ sym t
 
-module _ {ws : List ℕ} {s : Sheet} (h : Passed ws s) where
-  pub sheet-long : 6 ≤ length ws
-  unfolding sheet-words set-words
-  sheet-long = omega (arith, ap length (h .words))
+-- the complement of a set below p, as that of the states that are not in it
+turned : (p : ℕ) (f : ℕ → Bool) → p ≤ 64 → complement (mask p f) p ≡ mask p (has (flatMap (λ q. only (not (f q)) q) (numbers p)))
+unfolding complement
+turned p f l =
+    let e : min p 64 ≡ p = omega arith in
+    rw e (mask-like p _ _ (λ i h. ap not (bit-mask p f i h) ∙ sym (has-filter (λ q. not (f q)) p i h)))
 
-  pub states-word : getD ws 1 0 ≡ s .states
-  unfolding sheet-words
-  states-word = ap (λ (l : List ℕ). getD l 1 0) (h .words)
+-- all words are as they were but for the final states
+swapped-code : {s : List ℕ} (t : Sheet) → s ≡ sheet-words t → {r : ℕ} → r ≡ mask (t .states) (has (swapped t .final))
+    → slice 0 2 s ++ ((r % W ∷ r / W ∷ []) ++ slice 4 (length s) s) ≡ sheet-words (swapped t)
+unfolding swapped sheet-words set-words
+swapped-code {s} t e f =
+    let all : slice 4 (length s) s ≡ drop 4 s = ap (drop 4) (take-length s) in
+    rw (all, e) (ap (λ (n : ℕ). 1 ∷ t .states ∷ n % W ∷ n / W ∷ drop 4 (sheet-words t)) f)
 
-  pub tags-word : getD ws 4 0 ≡ s .tags
-  unfolding sheet-words set-words
-  tags-word = ap (λ (l : List ℕ). getD l 4 0) (h .words)
+pub swapped-words : {s : List ℕ} → Passes s → {x k r : ℕ} → x ≡ getD s 2 0 + getD s 3 0 * W → k ≡ getD s 1 0 → r ≡ complement x k
+    → slice 0 2 s ++ ((r % W ∷ r / W ∷ []) ++ slice 4 (length s) s) ≡ sheet-words (swapped (sheet-in s))
+unfolding swapped
+swapped-words {s} ok ex ek er =
+    let t = sheet-in s in
+    let states = ap₂ complement (ex ∙ final-words ok) (ek ∙ states-word ok) in
+    swapped-code t (coded ok) (er ∙ states ∙ turned (t .states) (has (t .final)) (in-range ok .few-states))
 
-  pub rules-word : getD ws 5 0 ≡ length (s .rules)
-  unfolding sheet-words set-words
-  rules-word = ap (λ (l : List ℕ). getD l 5 0) (h .words)
+-- ---- join: the words before the rules
 
-  pub final-words : getD ws 2 0 + getD ws 3 0 * W ≡ mask (s .states) (has (s .final))
-  unfolding sheet-words set-words
-  final-words =
-      let n = mask (s .states) (has (s .final)) in
-      let low : getD ws 2 0 ≡ n % W = ap (λ (l : List ℕ). getD l 2 0) (h .words) in
-      let high : getD ws 3 0 ≡ n / W = ap (λ (l : List ℕ). getD l 3 0) (h .words) in
-      omega arith
+module _ {u v : List ℕ} (h : BothPass u v) where
+  pub states-product : {p q : ℕ} → p ≡ getD u 1 0 → q ≡ getD v 1 0 → p * q ≡ joint-in u v .states
+  unfolding joint
+  states-product ep eq = ap₂ (_*_) (ep ∙ states-word (h .first)) (eq ∙ states-word (h .second))
 
-  -- the swapped sheet's words: all as they were but for the final states
-  pub swapped-words : {r : ℕ} → r ≡ mask (s .states) (λ q. not (has (s .final) q)) → slice 0 2 ws ++ ((r % W ∷ r / W ∷ []) ++ slice 4 (length ws) ws) ≡ sheet-words (swapped s)
-  unfolding swapped sheet-words set-words
-  swapped-words {r} e =
-      let f : ℕ → Bool = λ q. not (has (s .final) q) in
-      let all : slice 4 (length ws) ws ≡ drop 4 ws = ap (drop 4) (take-length ws) in
-      let e′ : r ≡ mask (s .states) (has (flatMap (λ q. only (f q) q) (numbers (s .states)))) = e ∙ sym (mask-like (s .states) _ f (λ q l. has-filter f (s .states) q l)) in
-      rw (all, h .words) (ap (λ (n : ℕ). 1 ∷ s .states ∷ n % W ∷ n / W ∷ drop 4 (sheet-words s)) e′)
+  pub product-small : {p q : ℕ} → p ≡ getD u 1 0 → q ≡ getD v 1 0 → p * q ≤ 64
+  unfolding joint
+  product-small ep eq = omega (arith, states-product ep eq, h .few .few)
 
-  -- the final states' number is of a set below the number of states
-  pub turnable : {final : ℕ} → final ≡ mask (s .states) (has (s .final)) → (1 ≤ getD ws 1 0) × (getD ws 1 0 ≤ 64) × (final < 2 ^ getD ws 1 0)
-  turnable e = rw (states-word, e) (h .ranges .some-states, h .ranges .few-states, mask-< (s .states) (has (s .final)))
+  -- a pair is final if both are
+  pub finals-paired : {p q x y set : ℕ} → p ≡ getD u 1 0 → q ≡ getD v 1 0 → x ≡ getD u 2 0 + getD u 3 0 * W → y ≡ getD v 2 0 + getD v 3 0 * W
+      → set ≡ pair-set p q x y → set ≡ final-in u v
+  unfolding joint
+  finals-paired ep eq ex ey e =
+      let s = sheet-in u in
+      let t = sheet-in v in
+      let sets = ap₂ (pair-set (s .states) (t .states)) (ex ∙ final-words (h .first)) (ey ∙ final-words (h .second)) in
+      e ∙ rw (ep ∙ states-word (h .first), eq ∙ states-word (h .second)) sets
+      ∙ few-pairs (s .states) (t .states) (mask (s .states) (has (s .final))) (mask (t .states) (has (t .final))) (h .few .few)
+      ∙ pairs-mask (in-range (h .first) .final) (in-range (h .second) .final) (h .few .some-T)
 
-  pub turns : {r final : ℕ} → final ≡ mask (s .states) (has (s .final)) → r + final + 1 ≡ 2 ^ getD ws 1 0 → r ≡ mask (s .states) (λ q. not (has (s .final) q))
-  turns e t = turned-is (s .states) (has (s .final)) e (t ∙ ap (λ (k : ℕ). 2 ^ k) states-word)
+  pub head-made : {p q set g n : ℕ} → p ≡ getD u 1 0 → q ≡ getD v 1 0 → set ≡ final-in u v → g ≡ getD u 4 0
+      → slice 0 2 (1 ∷ p * q ∷ []) ++ ((set % W ∷ set / W ∷ []) ++ slice 0 2 (g ∷ n ∷ [])) ≡ head-words u v n
+  unfolding head-words joint
+  head-made ep eq es eg = rw (states-product ep eq, es, eg ∙ tags-word (h .first))
+
+pub both-pass : {u i v j : List ℕ} → Joinable u i v j → BothPass u v
+both-pass h = record { first = h .first .sheet; second = h .second .sheet; few = h .few }
+
+pub joint-made : {u i v j : List ℕ} {n : ℕ} → WithinLimits u i v j n → head-words u v n ++ joint-words u v ≡ sheet-words (joint-in u v)
+unfolding head-words sheet-words set-words joint
+joint-made {u} {v = v} h = ap (λ (m : ℕ). head-words u v m ++ joint-words u v) (h .number)
+
+-- ---- join: the limits on the way
+
+module _ {u i v j : List ℕ} (h : Indexed u i) (k : Indexed v j) {p q : ℕ} (ep : p ≡ getD u 1 0) (eq : q ≡ getD v 1 0) where
+  product : p * q ≡ joint-in u v .states
+  unfolding joint
+  product = ap₂ (_*_) (ep ∙ states-word (h .sheet)) (eq ∙ states-word (k .sheet))
+
+  pub product-fits : p * q ≤ 64 * 64
+  product-fits =
+      let few-p : p ≤ 64 = omega (arith, states-word (h .sheet), in-range (h .sheet) .few-states) in
+      let few-q : q ≤ 64 = omega (arith, states-word (k .sheet), in-range (k .sheet) .few-states) in
+      mul-le p q few-p few-q
+
+  pub many-pairs : 64 < p * q → 64 < joint-in u v .states
+  many-pairs l = omega (arith, product)
+
+  pub few-joinable : p * q ≤ 64 → Joinable u i v j
+  unfolding joint
+  few-joinable l = record {
+    first = h;
+    second = k;
+    few = record { some-S = in-range (h .sheet) .some-states; some-T = in-range (k .sheet) .some-states; few = omega (arith, product) };
+  }
+
+module _ {u i v j : List ℕ} (h : Joinable u i v j) where
+  pub few-joint : joint-in u v .states ≤ 64
+  unfolding joint
+  few-joint = h .few .few
+
+  pub within : {t : Tally} → LimitOf (joint-in u v .rules) t → 6 ≤ t .place → WithinLimits u i v j (t .rules) × (t .rules ≤ 1024)
+  unfolding joint
+  within {t} k l =
+      let (few, positions) = within-few (joint-in u v .rules) (omega (arith, k .place)) in
+      (record { both = h; few-positions = positions; number = k .rules l }, omega (arith, k .rules l))
+
+  -- the tally of the rules of the joint sheet
+  pub joint-limit : {t : Tally} → LimitOf (joint-rules-in u v) t → LimitOf (joint-in u v .rules) t
+  unfolding joint
+  joint-limit k = k

@@ -1,47 +1,42 @@
--- The joint sheet of two sheets that passed: its words, its checks, and what a call gives by them.
+-- The joint sheet of two sheets that pass: its words, its checks, and what a call gives by them.
 use mathlib.Core.Path.{_≡_}
 use mathlib.Core.List.{List, [], _∷_, _++_}
-use Prim.Native.Nat.{ℕ, _≤_}
+use Prim.Native.Nat.{ℕ, _%_, _/_}
 use lib.Dec.{leb}
 use lib.ListN.{length}
+use Rattle.model.specs.Lists.{has}
 use Rattle.model.specs.Answers.{Said, Checked, passes, _>>_, require, room-for, answer-of, buffer-after}
-use Rattle.model.specs.Sheet.{Sheet, set-words, sheet-words}
-use Rattle.model.specs.Compose.{sizes, joint, within-limits}
-use Rattle.compose.specs.Sides.{FewPairs}
-use Rattle.compose.specs.Parts.{Passed}
-use Rattle.compose.specs.Rules.{Starts, Chained, FewPositions}
+use Rattle.model.specs.Sheet.{Sheet, W, mask, sheet-words}
+use Rattle.model.specs.Compose.{joint, within-limits}
+use Rattle.model.specs.Index.{sheet-in, Passes}
+use Rattle.join_pairs.specs.Sides.{FewPairs}
+use Rattle.join_alike.specs.Alike.{sizes-in, joint-rules-in, Joinable, FewPositions}
 
--- ---- what is known on the way
+-- ---- the sheets of the words u and v
 
--- The sheets s and t with the words u and v have few enough pairs of states. The tables a and b have as many places as the
--- sheets have rules, and the table nexts no fewer than t has.
-pub record FewStates (u a v b nexts : List ℕ) (s t : Sheet) : Type 0 where
-  pub first : Passed u s
-  pub second : Passed v t
-  pub few-pairs : FewPairs (sizes s t)
-  pub starts : length (s .rules) ≡ length a
-  pub others : length (t .rules) ≡ length b
-  pub nexts-room : length b ≤ length nexts
+abbrev pub joint-in : List ℕ → List ℕ → Sheet
+joint-in u v = joint (sheet-in u) (sheet-in v)
 
--- The tables a and b have where the rules stand, and t's rules are chained.
-pub record Tables (u a v b heads nexts : List ℕ) (s t : Sheet) : Type 0 where
-  pub first : Passed u s
-  pub second : Passed v t
-  pub few-pairs : FewPairs (sizes s t)
-  pub starts : Starts (s .states) u a (s .rules)
-  pub others : Starts (t .states) v b (t .rules)
-  pub chained : Chained (t .rules) heads nexts 0
+-- Both pass, and they have at most 64 pairs of states.
+pub record BothPass (u v : List ℕ) : Type 0 where
+  pub first : Passes u
+  pub second : Passes v
+  pub few : FewPairs (sizes-in u v)
 
--- The joint sheet has n rules, with few enough positions.
-pub record Joins (u a v b heads nexts : List ℕ) (n : ℕ) (s t : Sheet) : Type 0 where
-  pub tables : Tables u a v b heads nexts s t
-  pub few-positions : FewPositions (joint s t .rules)
-  pub number : n ≡ length (joint s t .rules)
+-- With the indexes i and j: there are n joint rules, with few enough positions.
+pub record WithinLimits (u i v j : List ℕ) (n : ℕ) : Type 0 where
+  pub both : Joinable u i v j
+  pub few-positions : FewPositions (joint-rules-in u v)
+  pub number : n ≡ length (joint-rules-in u v)
 
--- ---- the words before the rules, if there are n of them
+-- ---- the words before the joint rules, if there are n of them
 
-unfoldable pub head-words : Sheet → Sheet → ℕ → List ℕ
-head-words s t n = 1 ∷ joint s t .states ∷ (set-words (joint s t .states) (joint s t .final) ++ (joint s t .tags ∷ n ∷ []))
+-- the joint final states, as the number of their set
+abbrev pub final-in : List ℕ → List ℕ → ℕ
+final-in u v = mask (joint-in u v .states) (has (joint-in u v .final))
+
+unfoldable pub head-words : List ℕ → List ℕ → ℕ → List ℕ
+head-words u v n = 1 ∷ joint-in u v .states ∷ final-in u v % W ∷ final-in u v / W ∷ joint-in u v .tags ∷ n ∷ []
 
 -- ---- checks
 
@@ -59,3 +54,10 @@ limited j room = within-limits j >> lent (sheet-words j) room
 pub record Gives (out : List ℕ) (c : Checked (List ℕ)) (x : Said) (y : List ℕ) : Type 0 where
   pub says : x ≡ answer-of length c
   pub leaves : y ≡ buffer-after out c
+
+-- the joint sheet to a buffer: where its rules are within their limits, and where that is to be checked
+abbrev pub Fits : (u v out : List ℕ) → Said → List ℕ → Type 0
+Fits u v out = Gives out (fitted (joint-in u v) (length out))
+
+abbrev pub Limits : (u v out : List ℕ) → Said → List ℕ → Type 0
+Limits u v out = Gives out (limited (joint-in u v) (length out))

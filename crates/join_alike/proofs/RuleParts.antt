@@ -1,20 +1,19 @@
 -- The parts of a rule of any kind that stands in words: the map tells which there are, and where each stands.
 use mathlib.Core.Path.{_≡_, refl, sym, ap, ap₂, _∙_}
-use mathlib.Core.Bool.{Bool, true, false, cond}
+use mathlib.Core.Bool.{Bool, true, false}
 use mathlib.Core.List.{List}
 use mathlib.Core.Option.{Option, none, some}
-use Prim.Native.Nat.{ℕ, _+_, _≤_, _<_, min}
+use Prim.Native.Nat.{ℕ, _+_, _≤_, _<_}
 use native.Mathlib.Omega.{arith}
-use lib.Dec.{eqb}
 use lib.ListN.{length, getD, length-map}
 use Rattle.model.specs.Sheet.{Order, Step, Rule, one, two, three, set-words, arc-word, order-words, rule-words}
-use Rattle.model.specs.Spans.{OrderAt, CountAt, RuleAt, there-is, map-of, ordered, counted, order-part}
+use Rattle.model.specs.Spans.{OrderAt, CountAt, RuleAt, there-is, ordered, counted, order-part}
 use Rattle.model.specs.Index.{sheet-in, key}
 use Rattle.model.proofs.PartLaws.{word-is}
-use Rattle.model.proofs.RuleWords.{order-room, is-there, not-there, content-map, is-ordered, is-counted, order-at, count-stands}
-use Rattle.model.proofs.RuleWords.{target-there, rule-there}
+use Rattle.model.proofs.RuleWords.{order-room, is-there, not-there, is-ordered, is-counted, order-at, count-stands, target-there, rule-there}
 use Rattle.model.proofs.RuleWords.{text-key, tag-key}
 use Rattle.parts.specs.Lengths.{order-length, key-by}
+use Rattle.parts.proofs.LengthLaws.{key-of-rule}
 use Rattle.join_alike.specs.declared.Spot.{Spot}
 use Rattle.join_alike.specs.Spots.{rule-of, SpotOf, parts-of}
 
@@ -54,7 +53,7 @@ module _ {p a : ℕ} {s : List ℕ} where
   counts-stand (two g d q) h at e = let z : _≡_ {A = ℕ} 0 1 = cc in absurd (omega arith)
   counts-stand (three o φ q) h at e = count-stands h at e
 
-  -- ---- the target, and the key
+  -- ---- the target
 
   target-is : (x : Rule) → RuleAt p s a x → (t : ℕ) → t + 1 ≡ a + length (rule-words p x)
       → (getD s t 0 ≡ parts-of x .target) × (parts-of x .target < p)
@@ -66,19 +65,6 @@ module _ {p a : ℕ} {s : List ℕ} where
       let i : t ≡ a + 3 = omega arith in
       (ap (λ (i : ℕ). getD s i 0) i ∙ word-is (h .there) 3 (omega arith), h .ranges .3)
   target-is (three o φ q) h t e = (target-there h e .1, h .ranges .2)
-
-  key-word : (x : Rule) → RuleAt p s a x → key-by (getD s a 0) (getD s (a + 1) 0) ≡ key x
-  unfolding key key-by
-  key-word (one k q) h = rw (text-key h .0, text-key h .1) (omega (arith, h .ranges .1))
-  key-word (two g c q) h = rw (tag-key h .0, tag-key h .1) (omega (arith, h .ranges .1))
-  key-word (three o φ q) h = rw (content-map h) (go (there-is o) (there-is φ))
-    where
-      go : (b d : Bool) → cond (eqb (map-of b d) 33) (min (getD s (a + 1) 0) 2)
-          (cond (eqb (map-of b d) 38) (2 + min (getD s (a + 1) 0) 64) 0) ≡ 0
-      go true true = refl
-      go true false = refl
-      go false true = refl
-      go false false = refl
 
 -- ---- the rule of a spot
 
@@ -119,7 +105,7 @@ module _ {s : List ℕ} {x : Spot} (h : SpotOf s x) where
   target-here e = let (is, few) = target-is rule (h .begins) (x .target) (h .ends) in (e ∙ is, omega (arith, is))
 
   pub key-here : {m n k : ℕ} → m ≡ getD s (x .at) 0 → n ≡ getD s (x .at + 1) 0 → k ≡ key-by m n → k ≡ key rule
-  key-here e f i = i ∙ ap₂ key-by e f ∙ key-word rule (h .begins)
+  key-here e f i = i ∙ ap₂ key-by e f ∙ key-of-rule rule (h .begins)
 
 -- the first of T's rules with the key of S's rule x, by that key k
 pub first-here : (s index : List ℕ) (x : Spot) {k w r : ℕ} → k ≡ key (rule-of s x) → k < 67 → w ≡ getD index k 0 → r ≡ w

@@ -1,6 +1,6 @@
 -- `join_within` meets its contract.
 use Rattle.model.specs.Answers.{said, said-refusal}
-use Rattle.compose.proofs.AnswerLaws.{fitted-over, fitted-short, fitted-words}
+use Rattle.compose.proofs.AnswerLaws.{fitted-refused, fitted-words}
 use borrow.Author.Needs.{needs}
 use Rattle.compose.proofs.join_within.Statement.{statement}
 use Rattle.compose.proofs.join_within.Tie as tie
@@ -10,9 +10,16 @@ unfolding said said-refusal
 join-within-spec =
     tie.close
     (tie.spec
-    (λ c κs. c .before .before .before .before .before .before .pre)
-    (λ c. λ s t h. fitted-over _ _ (c .before .joint-length .ensures s t h) (c .if1 .taken))
-    (λ c. λ s t h. fitted-short _ _ (c .before .before .joint-length .ensures s t h) (c .before .if1 .left) (c .if2 .taken))
-    (λ c κs. c .before .before .before .before .before .before .before .before .before .before .pre)
+    (λ c κs. search needs)
+    (λ c κs. search needs)
     (λ c. search needs)
-    (λ c. λ s t h. fitted-words _ _ (c .before .before .before .before .before .before .joint-length .ensures s t h) (c .before .before .before .before .before .if1 .left) (c .before .before .before .before .if2 .left) (c .before .before .put-joint .ensures s t h)))
+    (λ c. search needs)
+    (λ c κs. search needs)
+    (λ c. fitted-refused _ _ (c .before .before .before .before .joint-length .ensures) (c .before .before .before .check-words .ensures) (c .before .refusal .given .1))
+    (λ c. search needs)
+    (λ c.
+    let after-put-joint = c .before .before in
+    let after-enum-told = after-put-joint .before .before in
+    let after-check-words = after-enum-told .before .before in
+    let after-joint-length = after-check-words .before in
+    fitted-words _ _ (after-joint-length .joint-length .ensures) (after-check-words .check-words .ensures) (after-enum-told .enum-told .given .1) (after-put-joint .put-joint .ensures)))

@@ -1,5 +1,5 @@
--- `sheets::joint_length` meets its contract.
-use Rattle.compose.proofs.PageLaws.{counted}
+-- `sheets::joint_length` meets its contract: words that are written into an empty buffer are counted.
+use Rattle.page.proofs.PageLaws.{counted}
 use borrow.Author.Needs.{needs}
 use Rattle.compose.proofs.sheets.joint_length.Statement.{statement}
 use Rattle.compose.proofs.sheets.joint_length.Tie as tie
@@ -9,5 +9,5 @@ joint-length-spec =
     tie.close
     (tie.spec
     (λ c. search needs)
-    (λ c κs. c .before .before .before .before .before .before .pre)
-    (λ c. λ s t h. counted (c .before .put-joint .ensures s t h)))
+    (λ c κs. search needs)
+    (λ c. counted (c .before .put-joint .ensures)))

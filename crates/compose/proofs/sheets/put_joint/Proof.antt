@@ -1,9 +1,6 @@
--- `sheets::put_joint` meets its contract.
-use mathlib.Core.Path.{refl}
-use native.Mathlib.Omega.{arith}
-use Rattle.compose.proofs.JoinWords.{rules-asked, rules-written, joint-words}
-use Rattle.compose.proofs.SheetWords.{sheet-long}
-use Rattle.compose.proofs.PageLaws.{then, as-words}
+-- `sheets::put_joint` meets its contract: the words before the rules, then the rules.
+use Rattle.page.proofs.PageLaws.{then, as-words}
+use Rattle.compose.proofs.SheetWords.{both-pass, joint-made}
 use borrow.Author.Needs.{needs}
 use Rattle.compose.proofs.sheets.put_joint.Statement.{statement}
 use Rattle.compose.proofs.sheets.put_joint.Tie as tie
@@ -12,9 +9,15 @@ pub put-joint-spec : {M : Type 1} → statement M
 put-joint-spec =
     tie.close
     (tie.spec
-    (λ c. let (s, t, h) = c .before .before .before .before .before .before .before .pre in omega (arith, sheet-long (h .tables .first)))
-    (λ c. let (s, t, h) = c .before .before .before .before .before .before .before .before .pre in omega (arith, sheet-long (h .tables .second)))
-    (λ c κs. let (s, t, h) = c .before .before .before .before .before .before .before .before .before .pre in (s, t, h .tables .first, h .tables .second, h .tables .few-pairs))
-    (λ c κs. let (s, t, h) = c .before .before .before .before .before .before .before .before .before .before .before .before .before .pre in rules-asked (h .tables) refl refl (h .few-positions))
+    (λ c κs.
+    let start = c .before .before .before .before .before .before in
+    both-pass (start .pre .both))
+    (λ c κs.
+    let start = c .before .before .before .before .before .before .before .before .before .before in
+    (start .pre .both, start .pre .few-positions))
     (λ c. search needs)
-    (λ c. λ s t h. as-words (joint-words h) (then (c .before .before .before .before .before .before .put-head .ensures s t (h .tables .first) (h .tables .second)) (rules-written (h .tables) refl refl (c .before .before .put-rules .ensures)))))
+    (λ c.
+    let after-put-rules = c .before .before in
+    let after-put-head = after-put-rules .before .before .before .before in
+    let start = after-put-head .before .before .before .before .before .before .before in
+    as-words (joint-made (start .pre)) (then (after-put-head .put-head .ensures) (after-put-rules .put-rules .ensures))))
