@@ -1,4 +1,12 @@
-// Document 01's numbers that more than one crate needs: the words of trees and sheets, and their limits.
+// Document 01's numbers that more than one crate needs: the words of trees and sheets, and their limits; and a word as an index.
+ghost use mathlib.Core.Path.{_≡_};
+
+// A word as an index or a count.
+pub fn wide(word: u32) -> usize
+    ensures { λ r. ⌜ r ≡ word ⌝ }
+{
+    word as usize
+}
 
 // ---- texts
 
@@ -7,10 +15,6 @@ pub const MOST_BYTES: usize = 65535;
 // ---- trees: each node is four words, the first of them its symbol
 
 pub const NODE_WORDS: usize = 4;
-
-pub const INTEGER_TEXT: u32 = 65;
-
-pub const OTHER_TEXT: u32 = 66;
 
 pub const MOST_NODES: usize = 4096;
 

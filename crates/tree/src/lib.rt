@@ -10,6 +10,7 @@ ghost use Rattle.tree.specs.Shape.{seen, shape-at};
 use layout::MOST_LEVELS;
 use layout::MOST_NODES;
 use layout::NODE_WORDS;
+use layout::wide;
 use model::Answer;
 use model::Refusal;
 use symbols::Symbol;
@@ -31,12 +32,6 @@ enum Shape {
     Whole,
     // the first node that breaks a rule
     Broken(usize),
-}
-
-fn wide(x: u32) -> usize
-    ensures { λ r. ⌜ r ≡ x ⌝ }
-{
-    x as usize
 }
 
 // Whether a number is one of the tags.
