@@ -22,7 +22,8 @@ abbrev first-of-all : (rules positions arcs steps : Bool) → ℕ
 first-of-all rules positions arcs steps = cond rules (first-of positions arcs steps) 2
 
 abbrev checks : (rules positions arcs steps : Bool) → Checked (Unit {0}) → Checked (Unit {0})
-checks rules positions arcs steps words = require rules 21 2 >> (require positions 21 3 >> (require arcs 21 4 >> (require steps 21 5 >> words)))
+checks rules positions arcs steps words = require rules 21 2 >>
+    (require positions 21 3 >> (require arcs 21 4 >> (require steps 21 5 >> words)))
 
 refused : (a b c d : Bool) (e : Checked (Unit {0})) → first-of-all a b c d < 6 → checks a b c d e ≡ refuses 21 (first-of-all a b c d)
 unfolding require _>>_
@@ -53,23 +54,27 @@ module _ (j : Sheet) (few : j .states ≤ 64) where
   abbrev of-words : Checked (Unit {0})
   of-words = require (leb (length (sheet-words j)) 16384) 21 6
 
-  after-states : within-limits j ≡ checks (few-rules R) (all-at-most positions-of 64 R) (all-at-most arcs-of 1024 R) (all-at-most steps-of 32 R) of-words
+  after-states : within-limits j ≡ checks (few-rules R) (all-at-most positions-of 64 R) (all-at-most arcs-of 1024 R)
+      (all-at-most steps-of 32 R) of-words
   unfolding within-limits require _>>_
   after-states = rw (tests.le-leb (j .states) 64 few)
 
   pub limits-over : first-place R < 6 → within-limits j ≡ refuses 21 (first-place R)
   unfolding first-place place-in
   limits-over h =
-      after-states ∙ refused (few-rules R) (all-at-most positions-of 64 R) (all-at-most arcs-of 1024 R) (all-at-most steps-of 32 R) of-words h
+      after-states ∙ refused (few-rules R) (all-at-most positions-of 64 R) (all-at-most arcs-of 1024 R)
+      (all-at-most steps-of 32 R) of-words h
 
   pub limits-within : 6 ≤ first-place R → within-limits j ≡ require (leb (length (sheet-words j)) 16384) 21 6
   unfolding first-place place-in require _>>_
   limits-within h =
-      let (a, b, c, d) = all-within (few-rules R) (all-at-most positions-of 64 R) (all-at-most arcs-of 1024 R) (all-at-most steps-of 32 R) h in
+      let (a, b, c, d) = all-within (few-rules R) (all-at-most positions-of 64 R) (all-at-most arcs-of 1024 R)
+      (all-at-most steps-of 32 R) h in
       after-states ∙ rw (a, b, c, d)
 
 pub within-few : (rs : List Rule) → 6 ≤ first-place rs → (length rs ≤ 1024) × FewPositions rs
 unfolding first-place place-in
 within-few rs h =
-    let (a, b, c, d) = all-within (few-rules rs) (all-at-most positions-of 64 rs) (all-at-most arcs-of 1024 rs) (all-at-most steps-of 32 rs) h in
+    let (a, b, c, d) = all-within (few-rules rs) (all-at-most positions-of 64 rs) (all-at-most arcs-of 1024 rs)
+    (all-at-most steps-of 32 rs) h in
     (tests.leb-true (length rs) 1024 a, λ z m. tests.leb-true (positions-of z) 64 (every-∈ (λ r. leb (positions-of r) 64) b z m))

@@ -70,7 +70,8 @@ module _ {u v : List ℕ} (h : BothPass u v) where
   product-small ep eq = omega (arith, states-product ep eq, h .few .few)
 
   -- a pair is final if both are
-  pub finals-paired : {p q x y set : ℕ} → p ≡ getD u 1 0 → q ≡ getD v 1 0 → x ≡ getD u 2 0 + getD u 3 0 * W → y ≡ getD v 2 0 + getD v 3 0 * W
+  pub finals-paired : {p q x y set : ℕ} → p ≡ getD u 1 0 → q ≡ getD v 1 0 → x ≡ getD u 2 0 + getD u 3 0 * W → y ≡ getD v 2 0 + getD v 3 0 *
+      W
       → set ≡ pair-set p q x y → set ≡ final-in u v
   unfolding joint
   finals-paired ep eq ex ey e =

@@ -10,7 +10,8 @@ use Rattle.model.specs.Sheet.{Order, Step, Rule, one, two, three, set-words, ar
 use Rattle.model.specs.Spans.{OrderAt, CountAt, RuleAt, there-is, ordered, counted, order-part}
 use Rattle.model.specs.Index.{sheet-in, key}
 use Rattle.model.proofs.PartLaws.{word-is}
-use Rattle.model.proofs.RuleWords.{order-room, is-there, not-there, is-ordered, is-counted, order-at, count-stands, target-there, rule-there}
+use Rattle.model.proofs.RuleWords.{order-room, is-there, not-there, is-ordered, is-counted, order-at, count-stands, target-there}
+use Rattle.model.proofs.RuleWords.{rule-there}
 use Rattle.model.proofs.RuleWords.{text-key, tag-key}
 use Rattle.parts.specs.Lengths.{order-length, key-by}
 use Rattle.parts.proofs.LengthLaws.{key-of-rule}

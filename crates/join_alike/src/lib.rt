@@ -8,6 +8,7 @@ ghost use Rattle.join_alike.specs.Spots.{SpotIn, rule-of, SpotOf, parts-
 use join_pairs::Sizes;
 use layout::ENTRIES;
 use layout::STATES;
+use layout::wide;
 use parts::at;
 use parts::entry_of;
 use parts::field;
@@ -15,7 +16,6 @@ use parts::has_count;
 use parts::has_order;
 use parts::key_of;
 use parts::order_length;
-use parts::wide;
 
 // A rule of a sheet by its number, the index of its first word, and that of its target, which is its last.
 pub struct Spot {

@@ -19,12 +19,12 @@ use join_alike::with_count;
 use join_alike::with_order;
 use join_pairs::Sizes;
 use layout::RULES;
+use layout::wide;
 use page::PLACE_RULES;
 use page::PLACE_WORDS;
 use page::first_over;
 use parts::at;
 use parts::field;
-use parts::wide;
 
 const MOST_RULES: usize = layout::MOST_RULES as usize;
 

@@ -36,28 +36,33 @@ use Rattle.join_rules.specs.Written.{parts-in, target-in, map-in, order-
 
 -- ---- by the kind
 
-one-rule : {n : model.Sizes} {x y z : Rule} → JointOf n x y z → rule-words (of-pairs n) z ≡ flatMap (rule-words (of-pairs n)) (pair-rule n x y)
+one-rule : {n : model.Sizes} {x y z : Rule} → JointOf n x y z → rule-words (of-pairs n) z ≡ flatMap (rule-words (of-pairs n))
+    (pair-rule n x y)
 unfolding flatMap
 one-rule {n} {z = z} w = rw (paired-rule w) (sym (append-nil (rule-words (of-pairs n) z)))
 
 text-rule : {n : model.Sizes} {x y z : Rule} → JointOf n x y z → {p a : ℕ} {s : List ℕ} → RuleAt p s a x → getD s a 0 ≡ 33
-    → {k q : ℕ} → k ≡ getD s (a + 1) 0 → q ≡ pair (n .of-T) (parts-of x .target) (parts-of y .target) → 33 ∷ k ∷ q ∷ [] ≡ rule-words (of-pairs n) z
+    → {k q : ℕ} → k ≡ getD s (a + 1) 0 → q ≡ pair (n .of-T) (parts-of x .target) (parts-of y .target) → 33 ∷ k ∷ q ∷ [] ≡ rule-words
+    (of-pairs n) z
 unfolding rule-words
 text-rule (texts k s t) h e ek eq = rw (ek, text-key h .1, eq)
 text-rule (tags g c d s t) h e ek eq = absurd (omega (arith, tag-key h .0))
 text-rule (contents o u φ ψ s t) h e ek eq = let (k, q, i) = as-text _ h e in let z : _≡_ {A = ℕ} 0 1 = cc i in absurd (omega arith)
 
-tag-rule : {n : model.Sizes} {x y z : Rule} → JointOf n x y z → {p r a b : ℕ} {s t : List ℕ} → RuleAt p s a x → RuleAt r t b y → getD s a 0 ≡ 38
+tag-rule : {n : model.Sizes} {x y z : Rule} → JointOf n x y z → {p r a b : ℕ} {s t : List ℕ} → RuleAt p s a x → RuleAt r t b y → getD s a 0
+    ≡ 38
     → {g c d i q : ℕ} → g ≡ getD s (a + 1) 0 → c ≡ getD s (a + 2) 0 → d ≡ getD t (b + 2) 0 → i ≡ pair (n .of-T) c d
     → q ≡ pair (n .of-T) (parts-of x .target) (parts-of y .target) → 38 ∷ g ∷ i ∷ q ∷ [] ≡ rule-words (of-pairs n) z
 unfolding rule-words
 tag-rule (texts k s t) h h′ e eg ec ed ei eq = absurd (omega (arith, text-key h .0))
 tag-rule (tags g c d s t) h h′ e eg ec ed ei eq =
     rw (ei, ec, ed, eg, tag-key h .1, eq, word-is (h .there) 2 (omega arith), word-is (h′ .there) 2 (omega arith))
-tag-rule (contents o u φ ψ s t) h h′ e eg ec ed ei eq = let (g, c, q, i) = as-tag _ h e in let z : _≡_ {A = ℕ} 0 1 = cc i in absurd (omega arith)
+tag-rule (contents o u φ ψ s t) h h′ e eg ec ed ei eq = let (g, c, q, i) = as-tag _ h e in let z : _≡_ {A = ℕ} 0 1 = cc i in
+    absurd (omega arith)
 
 -- inner states of rules of a tag are states
-inner-small : {n : model.Sizes} {x y z : Rule} → JointOf n x y z → {p r a b : ℕ} {s t : List ℕ} → RuleAt p s a x → RuleAt r t b y → getD s a 0 ≡ 38
+inner-small : {n : model.Sizes} {x y z : Rule} → JointOf n x y z → {p r a b : ℕ} {s t : List ℕ} → RuleAt p s a x → RuleAt r t b y → getD s a
+    0 ≡ 38
     → (getD s (a + 2) 0 < p) × (getD t (b + 2) 0 < r)
 unfolding rule-words
 inner-small (texts k s t) h h′ e = absurd (omega (arith, text-key h .0))
@@ -79,8 +84,10 @@ joint-counted n none (some ts) = refl
 joint-counted n (some ss) none = refl
 joint-counted n (some ss) (some ts) = refl
 
-content-rule : {n : model.Sizes} {x y z : Rule} → JointOf n x y z → {p a : ℕ} {s : List ℕ} → RuleAt p s a x → getD s a 0 ≢ 33 → getD s a 0 ≢ 38
-    → {m q : ℕ} → m ≡ map-of (there-is (parts-of x .order) || there-is (parts-of y .order)) (there-is (parts-of x .count) || there-is (parts-of y .count))
+content-rule : {n : model.Sizes} {x y z : Rule} → JointOf n x y z → {p a : ℕ} {s : List ℕ} → RuleAt p s a x → getD s a 0 ≢ 33 → getD s a 0 ≢
+    38
+    → {m q : ℕ} → m ≡ map-of (there-is (parts-of x .order) || there-is (parts-of y .order))
+    (there-is (parts-of x .count) || there-is (parts-of y .count))
     → q ≡ pair (n .of-T) (parts-of x .target) (parts-of y .target)
     → (m ∷ []) ++ (order-part (joint-order n (parts-of x .order) (parts-of y .order))
     ++ (count-part (of-pairs n) (joint-count n (parts-of x .count) (parts-of y .count)) ++ (q ∷ []))) ≡ rule-words (of-pairs n) z
@@ -91,7 +98,8 @@ content-rule {n} (contents o u φ ψ s t) h e f em eq =
     ∙ rw (joint-ordered n o u, joint-counted n φ ψ, ← em, ← eq))
 
 -- the positions of a joint rule that has an order part of each
-few-both : {n : model.Sizes} {x y z : Rule} → JointOf n x y z → positions-of z ≤ 64 → {o u : Order} → parts-of x .order ≡ some o → parts-of y .order ≡ some u
+few-both : {n : model.Sizes} {x y z : Rule} → JointOf n x y z → positions-of z ≤ 64 → {o u : Order} → parts-of x .order ≡ some o → parts-of
+    y .order ≡ some u
     → o .positions * u .positions ≤ 64
 unfolding joint-order pair-order positions-of
 few-both (texts k s t) h e f = let z : _≡_ {A = ℕ} 0 1 = cc e in absurd (omega arith)
@@ -118,15 +126,18 @@ module _ (n : model.Sizes) {o u : Option Order} where
   order-neither e f = rw (e, f)
 
 module _ (n : model.Sizes) {φ ψ : Option (List Step)} where
-  pub count-both : {ss ts : List Step} → φ ≡ some ss → ψ ≡ some ts → count-words (of-pairs n) (joint-steps n ss ts) ≡ count-part (of-pairs n) (joint-count n φ ψ)
+  pub count-both : {ss ts : List Step} → φ ≡ some ss → ψ ≡ some ts → count-words (of-pairs n) (joint-steps n ss ts) ≡ count-part
+      (of-pairs n) (joint-count n φ ψ)
   unfolding joint-count
   count-both e f = rw (e, f)
 
-  pub count-first : {ss : List Step} → φ ≡ some ss → ψ ≡ none → count-words (of-pairs n) (map (lift-step S n 0) ss) ≡ count-part (of-pairs n) (joint-count n φ ψ)
+  pub count-first : {ss : List Step} → φ ≡ some ss → ψ ≡ none → count-words (of-pairs n) (map (lift-step S n 0) ss) ≡ count-part
+      (of-pairs n) (joint-count n φ ψ)
   unfolding joint-count
   count-first e f = rw (e, f)
 
-  pub count-second : {ts : List Step} → φ ≡ none → ψ ≡ some ts → count-words (of-pairs n) (map (lift-step T n 0) ts) ≡ count-part (of-pairs n) (joint-count n φ ψ)
+  pub count-second : {ts : List Step} → φ ≡ none → ψ ≡ some ts → count-words (of-pairs n) (map (lift-step T n 0) ts) ≡ count-part
+      (of-pairs n) (joint-count n φ ψ)
   unfolding joint-count
   count-second e f = rw (e, f)
 
@@ -148,14 +159,18 @@ module _ {u v : List ℕ} {n : Sizes} {r : RulePair} (h : Alike u v n r) where
 
   -- the targets make a pair
   pub targets-small : {a b : ℕ} → a ≡ getD u (r .s .target) 0 → b ≡ getD v (r .t .target) 0 → (n .t ≤ 64) × (a ≤ 255) × (b ≤ 255)
-  targets-small ea eb =
-      (few-states .1, omega (arith, few-states, states-S, target-here (h .first) ea .1), omega (arith, few-states, states-T, target-here (h .second) eb .1))
+  targets-small ea eb = (
+    few-states .1,
+    omega (arith, few-states, states-S, target-here (h .first) ea .1),
+    omega (arith, few-states, states-T, target-here (h .second) eb .1),
+  )
 
   pub targets-pair : {a b q : ℕ} → a ≡ getD u (r .s .target) 0 → b ≡ getD v (r .t .target) 0 → q ≡ pair (n .t) a b → q ≡ target-in u v n r
   targets-pair ea eb eq = eq ∙ ap₂ (pair (n .t)) (target-here (h .first) ea .0) (target-here (h .second) eb .0)
 
   -- the words of the joint rule
-  pub text-words : getD u (r .s .at) 0 ≡ 33 → {k q : ℕ} → k ≡ getD u (r .s .at + 1) 0 → q ≡ target-in u v n r → slice 0 3 (33 ∷ k ∷ q ∷ []) ≡ pair-words u v n r
+  pub text-words : getD u (r .s .at) 0 ≡ 33 → {k q : ℕ} → k ≡ getD u (r .s .at + 1) 0 → q ≡ target-in u v n r → slice 0 3
+      (33 ∷ k ∷ q ∷ []) ≡ pair-words u v n r
   text-words e ek eq = let (z, w) = alike-paired h in text-rule w (h .first .begins) e ek eq ∙ one-rule w
 
   module _ (e : getD u (r .s .at) 0 ≡ 38) {c d : ℕ} (ec : c ≡ getD u (r .s .at + 2) 0) (ed : d ≡ getD v (r .t .at + 2) 0) where
@@ -165,7 +180,8 @@ module _ {u v : List ℕ} {n : Sizes} {r : RulePair} (h : Alike u v n r) where
         let (few-c, few-d) = inner-small w (h .first .begins) (h .second .begins) e in
         (few-states .1, omega (arith, few-states, states-S), omega (arith, few-states, states-T))
 
-    pub tag-words : {g i q : ℕ} → g ≡ getD u (r .s .at + 1) 0 → i ≡ pair (n .t) c d → q ≡ target-in u v n r → slice 0 4 (38 ∷ g ∷ i ∷ q ∷ []) ≡ pair-words u v n r
+    pub tag-words : {g i q : ℕ} → g ≡ getD u (r .s .at + 1) 0 → i ≡ pair (n .t) c d → q ≡ target-in u v n r → slice 0 4
+        (38 ∷ g ∷ i ∷ q ∷ []) ≡ pair-words u v n r
     tag-words eg ei eq = let (z, w) = alike-paired h in tag-rule w (h .first .begins) (h .second .begins) e eg ec ed ei eq ∙ one-rule w
 
   pub content-words-in : getD u (r .s .at) 0 ≢ 33 → getD u (r .s .at) 0 ≢ 38 → {m q : ℕ} → m ≡ map-in u v r → q ≡ target-in u v n r
@@ -187,10 +203,12 @@ module _ {u v : List ℕ} {n : Sizes} {r : RulePair} (h : Alike u v n r) where
   orders-few few e f = let (z, w) = alike-paired h in few-both w (few z (rw (paired-rule w) (List·Memᴰ·head refl))) e f
 
   -- a count part likewise
-  pub count-S : {c : ℕ} → c ≡ r .s .at + 1 + length (order-part (parts-in u (r .s) .order)) → {ss : List Step} → parts-in u (r .s) .count ≡ some ss → CountAt (n .s) u c ss
+  pub count-S : {c : ℕ} → c ≡ r .s .at + 1 + length (order-part (parts-in u (r .s) .order)) → {ss : List Step} → parts-in u
+      (r .s) .count ≡ some ss → CountAt (n .s) u c ss
   count-S at e = rw states-S at (count-here (h .first) at e)
 
-  pub count-T : {c : ℕ} → c ≡ r .t .at + 1 + length (order-part (parts-in v (r .t) .order)) → {ss : List Step} → parts-in v (r .t) .count ≡ some ss → CountAt (n .t) v c ss
+  pub count-T : {c : ℕ} → c ≡ r .t .at + 1 + length (order-part (parts-in v (r .t) .order)) → {ss : List Step} → parts-in v
+      (r .t) .count ≡ some ss → CountAt (n .t) v c ss
   count-T at e = rw states-T at (count-here (h .second) at e)
 
 -- ---- by the code's tests
@@ -209,22 +227,26 @@ module _ {u v : List ℕ} {n : Sizes} {r : RulePair} (h : Alike u v n r) where
     none-T : b ≡ false → parts-in v (r .t) .order ≡ none
     none-T t = not-there (parts-in v (r .t) .order) (sym eb ∙ t)
 
-    pub orders-pairable : FewPositions (pair-in u v n r) → a ≡ true → b ≡ true → PairableOrders n u v (record { s = r .s .at + 1; t = r .t .at + 1 })
+    pub orders-pairable : FewPositions (pair-in u v n r) → a ≡ true → b ≡ true → PairableOrders n u v
+        (record { s = r .s .at + 1; t = r .t .at + 1 })
     orders-pairable few s t =
         let (o, e) = some-S s in
         let (q, f) = some-T t in
         record { of-S = o; of-T = q; at-S = order-S h e; at-T = order-T h f; few = orders-few h few e f }
 
-    pub orders-paired : {l l′ : List ℕ} {i i′ : ℕ} → a ≡ true → b ≡ true → PairsOrders n u v (record { s = r .s .at + 1; t = r .t .at + 1 }) (λ ws. Writes l i ws l′ i′) → Writes l i (order-in u v n r) l′ i′
+    pub orders-paired : {l l′ : List ℕ} {i i′ : ℕ} → a ≡ true → b ≡ true → PairsOrders n u v (record { s = r .s .at + 1; t = r .t .at + 1 })
+        (λ ws. Writes l i ws l′ i′) → Writes l i (order-in u v n r) l′ i′
     orders-paired s t w =
         let (o, e) = some-S s in
         let (q, f) = some-T t in
         as-words (order-both (sizes-of n) e f) (w o q (order-S h e) (order-T h f))
 
-    pub order-S-lifted : {l l′ : List ℕ} {i i′ : ℕ} → a ≡ true → b ≡ false → LiftsOrder sides.S n u (r .s .at + 1) (λ ws. Writes l i ws l′ i′) → Writes l i (order-in u v n r) l′ i′
+    pub order-S-lifted : {l l′ : List ℕ} {i i′ : ℕ} → a ≡ true → b ≡ false → LiftsOrder sides.S n u (r .s .at + 1)
+        (λ ws. Writes l i ws l′ i′) → Writes l i (order-in u v n r) l′ i′
     order-S-lifted s t w = let (o, e) = some-S s in as-words (order-first (sizes-of n) e (none-T t)) (w o (order-S h e))
 
-    pub order-T-lifted : {l l′ : List ℕ} {i i′ : ℕ} → a ≡ false → b ≡ true → LiftsOrder sides.T n v (r .t .at + 1) (λ ws. Writes l i ws l′ i′) → Writes l i (order-in u v n r) l′ i′
+    pub order-T-lifted : {l l′ : List ℕ} {i i′ : ℕ} → a ≡ false → b ≡ true → LiftsOrder sides.T n v (r .t .at + 1)
+        (λ ws. Writes l i ws l′ i′) → Writes l i (order-in u v n r) l′ i′
     order-T-lifted s t w = let (o, e) = some-T t in as-words (order-second (sizes-of n) (none-S s) e) (w o (order-T h e))
 
     pub no-orders : {l : List ℕ} {i : ℕ} → a ≡ false → b ≡ false → Writes l i (order-in u v n r) l i
@@ -238,7 +260,8 @@ module _ {u v : List ℕ} {n : Sizes} {r : RulePair} (h : Alike u v n r) where
 
 -- the same of count parts, at c and d
 module _ {u v : List ℕ} {n : Sizes} {r : RulePair} (h : Alike u v n r) {c d : ℕ}
-    (ec : c ≡ r .s .at + 1 + length (order-part (parts-in u (r .s) .order))) (ed : d ≡ r .t .at + 1 + length (order-part (parts-in v (r .t) .order))) where
+    (ec : c ≡ r .s .at + 1 + length (order-part (parts-in u (r .s) .order)))
+    (ed : d ≡ r .t .at + 1 + length (order-part (parts-in v (r .t) .order))) where
   pub count-S-there : {a : Bool} → a ≡ there-is (parts-in u (r .s) .count) → a ≡ true → SomeCount (n .s) u c
   count-S-there e t = let (ss, f) = is-there (parts-in u (r .s) .count) (sym e ∙ t) in (ss, count-S h ec f)
 
@@ -246,18 +269,21 @@ module _ {u v : List ℕ} {n : Sizes} {r : RulePair} (h : Alike u v n r) {c d : 
   count-T-there e t = let (ss, f) = is-there (parts-in v (r .t) .count) (sym e ∙ t) in (ss, count-T h ed f)
 
   module _ {a b : Bool} (ea : a ≡ there-is (parts-in u (r .s) .count)) (eb : b ≡ there-is (parts-in v (r .t) .count)) where
-    pub counts-joined : {l l′ : List ℕ} {i i′ : ℕ} → a ≡ true → b ≡ true → JoinsCounts n u v (record { s = c; t = d }) (λ ws. Writes l i ws l′ i′) → Writes l i (count-in u v n r) l′ i′
+    pub counts-joined : {l l′ : List ℕ} {i i′ : ℕ} → a ≡ true → b ≡ true → JoinsCounts n u v (record { s = c; t = d })
+        (λ ws. Writes l i ws l′ i′) → Writes l i (count-in u v n r) l′ i′
     counts-joined s t w =
         let (ss, e) = is-there (parts-in u (r .s) .count) (sym ea ∙ s) in
         let (ts, f) = is-there (parts-in v (r .t) .count) (sym eb ∙ t) in
         as-words (count-both (sizes-of n) e f) (w ss ts (count-S h ec e) (count-T h ed f))
 
-    pub count-S-lifted : {l l′ : List ℕ} {i i′ : ℕ} → a ≡ true → b ≡ false → LiftsCount sides.S n u c (λ ws. Writes l i ws l′ i′) → Writes l i (count-in u v n r) l′ i′
+    pub count-S-lifted : {l l′ : List ℕ} {i i′ : ℕ} → a ≡ true → b ≡ false → LiftsCount sides.S n u c
+        (λ ws. Writes l i ws l′ i′) → Writes l i (count-in u v n r) l′ i′
     count-S-lifted s t w =
         let (ss, e) = is-there (parts-in u (r .s) .count) (sym ea ∙ s) in
         as-words (count-first (sizes-of n) e (not-there (parts-in v (r .t) .count) (sym eb ∙ t))) (w ss (count-S h ec e))
 
-    pub count-T-lifted : {l l′ : List ℕ} {i i′ : ℕ} → a ≡ false → b ≡ true → LiftsCount sides.T n v d (λ ws. Writes l i ws l′ i′) → Writes l i (count-in u v n r) l′ i′
+    pub count-T-lifted : {l l′ : List ℕ} {i i′ : ℕ} → a ≡ false → b ≡ true → LiftsCount sides.T n v d
+        (λ ws. Writes l i ws l′ i′) → Writes l i (count-in u v n r) l′ i′
     count-T-lifted s t w =
         let (ts, e) = is-there (parts-in v (r .t) .count) (sym eb ∙ t) in
         as-words (count-second (sizes-of n) (not-there (parts-in u (r .s) .count) (sym ea ∙ s)) e) (w ts (count-T h ed e))
@@ -268,13 +294,15 @@ module _ {u v : List ℕ} {n : Sizes} {r : RulePair} (h : Alike u v n r) {c d : 
         as-words (count-neither (sizes-of n) e (not-there (parts-in v (r .t) .count) (sym eb ∙ t))) (nothing l i)
 
 -- the flags of the two rules make the map of the joint one
-pub map-made : (u v : List ℕ) (r : RulePair) {a b c d : Bool} {m : ℕ} → a ≡ there-is (parts-in u (r .s) .order) → b ≡ there-is (parts-in v (r .t) .order)
+pub map-made : (u v : List ℕ) (r : RulePair) {a b c d : Bool} {m : ℕ} → a ≡ there-is (parts-in u (r .s) .order) → b ≡ there-is
+    (parts-in v (r .t) .order)
     → c ≡ there-is (parts-in u (r .s) .count) → d ≡ there-is (parts-in v (r .t) .count) → m ≡ map-of (a || b) (c || d) → m ≡ map-in u v r
 map-made u v r ea eb ec ed e = e ∙ rw (ea, eb, ec, ed)
 
 -- ---- rows
 
-module _ {u v index : List ℕ} {x : Spot} {n : Sizes} {m j : ℕ} (h : InRow u v index x n m j) (l : j < m) {y : Spot} (e : SpotIn index j y) where
+module _ {u v index : List ℕ} {x : Spot} {n : Sizes} {m j : ℕ} (h : InRow u v index x n m j) (l : j < m) {y : Spot}
+    (e : SpotIn index j y) where
   abbrev words : Rule → List ℕ
   words = rule-words (of-pairs (sizes-in u v))
 
@@ -283,7 +311,8 @@ module _ {u v index : List ℕ} {x : Spot} {n : Sizes} {m j : ℕ} (h : InRow u 
   row-words-next {i} f =
       let (_, next, _) = row-next h l e f in
       ap (flatMap words) next ∙ each-append words (pair-in u v n (record { s = x; t = y })) (row-from u v x i)
-      ∙ ap (λ (k : model.Sizes). flatMap (rule-words (of-pairs k)) (pair-in u v n (record { s = x; t = y })) ++ flatMap words (row-from u v x i)) (sym (h .sizes))
+      ∙ ap (λ (k : model.Sizes). flatMap (rule-words (of-pairs k)) (pair-in u v n (record { s = x; t = y })) ++ flatMap words
+      (row-from u v x i)) (sym (h .sizes))
 
   pub pair-few : FewPositions (row-in u v x) → FewPositions (pair-in u v n (record { s = x; t = y }))
   pair-few few z k = few z (row-among h l e k)

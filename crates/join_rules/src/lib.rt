@@ -32,11 +32,11 @@ use layout::ORDER_RULE;
 use layout::RULES;
 use layout::TAG_RULE;
 use layout::TEXT_RULE;
+use layout::wide;
 use page::copy;
 use page::put;
 use parts::at;
 use parts::field;
-use parts::wide;
 
 // The pair of the targets of two rules.
 fn joint_target(first: &[u32], second: &[u32], rules: RulePair, sizes: Sizes) -> u32
@@ -58,7 +58,8 @@ fn put_texts(
     next: usize,
 ) -> usize
     requires { ⌜ Alike (now first) (now second) sizes rules × (getD (now first) (rules .s .at) 0 ≡ 33) ⌝ }
-    ensures { λ r. ⌜ Writes (now (out .entry)) next (pair-words (now (first .entry)) (now (second .entry)) sizes rules) (now (out .exit)) r ⌝ }
+    ensures { λ r. ⌜ Writes (now (out .entry)) next (pair-words (now (first .entry)) (now (second .entry)) sizes rules)
+        (now (out .exit)) r ⌝ }
 {
     let kind = field(first, rules.s.at, 1);
     let target = joint_target(first, second, rules, sizes);
@@ -75,7 +76,8 @@ fn put_tags(
     next: usize,
 ) -> usize
     requires { ⌜ Alike (now first) (now second) sizes rules × (getD (now first) (rules .s .at) 0 ≡ 38) ⌝ }
-    ensures { λ r. ⌜ Writes (now (out .entry)) next (pair-words (now (first .entry)) (now (second .entry)) sizes rules) (now (out .exit)) r ⌝ }
+    ensures { λ r. ⌜ Writes (now (out .entry)) next (pair-words (now (first .entry)) (now (second .entry)) sizes rules)
+        (now (out .exit)) r ⌝ }
 {
     let tag = field(first, rules.s.at, 1);
     let s = field(first, rules.s.at, 2);
@@ -112,7 +114,8 @@ fn put_order(
 ) -> usize
     requires pair { ⌜ Alike (now first) (now second) sizes rules ⌝ }
     requires few { ⌜ FewPositions (pair-in (now first) (now second) sizes rules) ⌝ }
-    ensures { λ r. ⌜ Writes (now (out .entry)) next (order-in (now (first .entry)) (now (second .entry)) sizes rules) (now (out .exit)) r ⌝ }
+    ensures { λ r. ⌜ Writes (now (out .entry)) next (order-in (now (first .entry)) (now (second .entry)) sizes rules)
+        (now (out .exit)) r ⌝ }
 {
     let x = rules.s;
     let y = rules.t;
@@ -142,7 +145,8 @@ fn put_count(
     next: usize,
 ) -> usize
     requires { ⌜ Alike (now first) (now second) sizes rules ⌝ }
-    ensures { λ r. ⌜ Writes (now (out .entry)) next (count-in (now (first .entry)) (now (second .entry)) sizes rules) (now (out .exit)) r ⌝ }
+    ensures { λ r. ⌜ Writes (now (out .entry)) next (count-in (now (first .entry)) (now (second .entry)) sizes rules)
+        (now (out .exit)) r ⌝ }
 {
     let x = rules.s;
     let y = rules.t;
@@ -187,7 +191,8 @@ fn put_contents(
     requires pair { ⌜ Alike (now first) (now second) sizes rules ⌝ }
     requires few { ⌜ FewPositions (pair-in (now first) (now second) sizes rules) ⌝ }
     requires map { ⌜ (getD (now first) (rules .s .at) 0 ≢ 33) × (getD (now first) (rules .s .at) 0 ≢ 38) ⌝ }
-    ensures { λ r. ⌜ Writes (now (out .entry)) next (pair-words (now (first .entry)) (now (second .entry)) sizes rules) (now (out .exit)) r ⌝ }
+    ensures { λ r. ⌜ Writes (now (out .entry)) next (pair-words (now (first .entry)) (now (second .entry)) sizes rules)
+        (now (out .exit)) r ⌝ }
 {
     let mapped = put(out, next, joint_map(first, second, rules));
     let ruled = put_order(first, second, rules, sizes, out, mapped);
@@ -206,7 +211,8 @@ fn put_pair(
 ) -> usize
     requires pair { ⌜ Alike (now first) (now second) sizes rules ⌝ }
     requires few { ⌜ FewPositions (pair-in (now first) (now second) sizes rules) ⌝ }
-    ensures { λ r. ⌜ Writes (now (out .entry)) next (pair-words (now (first .entry)) (now (second .entry)) sizes rules) (now (out .exit)) r ⌝ }
+    ensures { λ r. ⌜ Writes (now (out .entry)) next (pair-words (now (first .entry)) (now (second .entry)) sizes rules)
+        (now (out .exit)) r ⌝ }
 {
     let map = at(first, rules.s.at);
     if map == TEXT_RULE {

@@ -15,7 +15,7 @@ use judge_rules::tag_targets;
 use judge_rules::text_targets;
 use layout::MOST_TAGS;
 use layout::NODE_WORDS;
-use parts::wide;
+use layout::wide;
 
 // The children of a node: one of them has no state, or all of them have one, and this is their number.
 enum Children {

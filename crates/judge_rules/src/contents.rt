@@ -11,7 +11,7 @@ use judge_count::count_fits;
 use judge_count::occurrences;
 use judge_order::read_order;
 use layout::ENTRIES;
-use parts::wide;
+use layout::wide;
 
 // the key of content
 const CONTENT: usize = 0;

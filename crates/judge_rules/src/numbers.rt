@@ -29,7 +29,7 @@ pub fn count_rules(sheet: &[u32], index: &[u32]) -> Rules
     requires { ⌜ Indexed (now sheet) (now index) ⌝ }
     ensures { λ r. ⌜ RulesOf (now (sheet .entry)) r ⌝ }
 {
-    let number = parts::wide(parts::at(sheet, RULES));
+    let number = layout::wide(parts::at(sheet, RULES));
     let mut ones = 0;
     let mut twos = 0;
     let mut counted = 0;

@@ -7,7 +7,7 @@ ghost use Rattle.model.specs.Index.{rules-in, Indexed};
 ghost use Rattle.bits.specs.Stands.{Stands};
 ghost use Rattle.judge_rules.specs.Rules.{TagReaches, with-target};
 use layout::ENTRIES;
-use parts::wide;
+use layout::wide;
 
 // the keys of tags are after those of the kinds of texts
 const TEXT_KINDS: usize = 2;

@@ -14,7 +14,9 @@ use Rattle.model.specs.declared.Answer.{Answer}
 use Rattle.model.specs.declared.Answer.the-variants.{Count, Error}
 use Rattle.model.specs.declared.Refusal.{Refusal}
 use Rattle.model.specs.declared.Refusal.the-variants as refusals
-use Rattle.model.specs.declared.Refusal.the-variants.{LongText, ForbiddenByte, Syntax, UnknownName, OtherName, Depth, ManyNodes, NameList, Tree, TextWords, TagCounts, JointLimit, ShortBuffer, TwoStates, LongForm}
+use Rattle.model.specs.declared.Refusal.the-variants.{LongText, ForbiddenByte, Syntax, UnknownName, OtherName, Depth, ManyNodes}
+use Rattle.model.specs.declared.Refusal.the-variants.{NameList, Tree, TextWords, TagCounts, JointLimit, ShortBuffer, TwoStates}
+use Rattle.model.specs.declared.Refusal.the-variants.{LongForm}
 use Rattle.model.proofs.SheetCode.{sheet-refuses}
 use Rattle.model.proofs.TreeLaws.{length-wordsD, tree-refuses}
 
@@ -73,7 +75,8 @@ module _ {c : Checked (List ℕ)} {out left : List ℕ} {r : Answer} (promise : 
   unfolding buffer-after
   front-left {n} e =
       let (ws, passed, size) = counted length c (promise .answer) e in
-      let front : take n left ≡ ws = ap (take n) (promise .buffer ∙ ap (buffer-after out) passed) ∙ take-at ws (drop (length ws) out) n size in
+      let front : take n left ≡ ws = ap (take n) (promise .buffer ∙ ap (buffer-after out) passed) ∙ take-at ws
+      (drop (length ws) out) n size in
       passed ∙ ap passes (sym front)
 
   -- … and the words past them are as they were
@@ -96,7 +99,8 @@ module _ (list : List ℕ) {r : Answer} where
   unfolding names-said
   names-counted h e = let (g, p, q) = counted (λ g. g) (names-of list) h e in p ∙ ap passes q
 
-  pub names-refused : {x : Refusal} → said r ≡ names-said list → r ≡ Error x → (m i : ℕ) × (names-of list ≡ refuses m i) × (said-refusal x ≡ refusal m i)
+  pub names-refused : {x : Refusal} → said r ≡ names-said list → r ≡ Error x → (m i : ℕ) × (names-of list ≡ refuses m i) ×
+      (said-refusal x ≡ refusal m i)
   unfolding names-said
   names-refused h e = refused (λ g. g) (names-of list) h e
 
@@ -106,7 +110,8 @@ module _ (g : ℕ) (t : List ℕ) {r : Answer} where
   unfolding tree-said
   tree-counted h e = counted size (tree-of g t) h e
 
-  pub tree-refused : {x : Refusal} → said r ≡ tree-said g t → r ≡ Error x → (i : ℕ) × (tree-of g t ≡ refuses 10 i) × (said-refusal x ≡ refusal 10 i)
+  pub tree-refused : {x : Refusal} → said r ≡ tree-said g t → r ≡ Error x → (i : ℕ) × (tree-of g t ≡ refuses 10 i) ×
+      (said-refusal x ≡ refusal 10 i)
   unfolding tree-said
   tree-refused h e =
       let (m, i, q, s) = refused size (tree-of g t) h e in
@@ -114,7 +119,8 @@ module _ (g : ℕ) (t : List ℕ) {r : Answer} where
       (i, rw n at q, rw n at s)
 
 -- of a text: where n nodes are counted, their words stand at the front of the lent tree
-pub read-counted : (list s tree : List ℕ) {left : List ℕ} {r : Answer} {n : ℕ} → said r ≡ read-said list s tree → left ≡ read-tree list s tree → r ≡ Count n
+pub read-counted : (list s tree : List ℕ) {left : List ℕ} {r : Answer} {n : ℕ} → said r ≡ read-said list s tree → left ≡ read-tree list s
+    tree → r ≡ Count n
     → (d : Document) × (read list s (length tree) ≡ passes d) × (sizeD d ≡ n) × (take (n * 4) left ≡ wordsD d)
 unfolding read-said read-tree buffer-after _>>=_
 read-counted list s tree {left} {n = n} h b e =
@@ -128,7 +134,8 @@ module _ (ws : List ℕ) {r : Answer} where
   unfolding sheet-said
   sheet-counted h e = let (s, p, q) = counted (λ s. length ws) (sheet-of ws) h e in (sym q, (s, p))
 
-  pub sheet-refused : {x : Refusal} → said r ≡ sheet-said ws → r ≡ Error x → (i : ℕ) × (sheet-of ws ≡ refuses 9 i) × (said-refusal x ≡ refusal 9 i)
+  pub sheet-refused : {x : Refusal} → said r ≡ sheet-said ws → r ≡ Error x → (i : ℕ) × (sheet-of ws ≡ refuses 9 i) ×
+      (said-refusal x ≡ refusal 9 i)
   unfolding sheet-said
   sheet-refused h e =
       let (m, i, q, s) = refused (λ s. length ws) (sheet-of ws) h e in

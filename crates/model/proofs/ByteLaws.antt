@@ -6,7 +6,8 @@ use mathlib.Core.List.{List, [], _∷_, _++_}
 use Prim.Native.Nat.{ℕ}
 use lib.ListN.{length, getD}
 use Rattle.model.specs.Lists.{every}
-use Rattle.model.specs.Bytes.{Class, white, letter, digit, hyphen, less, greater, slash, other, forbidden, class-number, is, class-of, letter-byte, name-byte, is-name}
+use Rattle.model.specs.Bytes.{Class, white, letter, digit, hyphen, less, greater, slash, other, forbidden, class-number, is, class-of}
+use Rattle.model.specs.Bytes.{letter-byte, name-byte, is-name}
 use Rattle.model.specs.Text.{name-at, trimmed, text-at}
 use Rattle.model.specs.Written.{text-byte, solid-byte, trimmed-text}
 use Rattle.model.proofs.ListLaws.{every-cons}
@@ -100,7 +101,8 @@ pub text-at-end : (b : ℕ) (t s : List ℕ) → Yes (every text-byte (b ∷ t))
     → text-at ((b ∷ t) ++ (60 ∷ s)) ≡ b ∷ t
 unfolding text-at trimmed solid-byte is class-of class-number
 text-at-end b [] s h last = rw (not-less b (every-cons text-byte b [] h .0), yes-not (is (class-of b) white) last)
-text-at-end b (d ∷ t) s h last = let (u, v) = every-cons text-byte b (d ∷ t) h in rw (not-less b u) (ap (trimmed b) (text-at-end d t s v last))
+text-at-end b (d ∷ t) s h last = let (u, v) = every-cons text-byte b (d ∷ t) h in rw (not-less b u)
+    (ap (trimmed b) (text-at-end d t s v last))
 
 -- a trimmed text, test by test
 pub trimmed-cons : (b : ℕ) (t : List ℕ) → Yes (trimmed-text (b ∷ t))

@@ -20,11 +20,13 @@ pub record First (key : Rule → ℕ) (xs : List Rule) (k a i : ℕ) : Type 0 wh
   pub least : (j : ℕ) → a ≤ j → j < i → key (nth xs j) ≢ k
 
 -- rules that give nothing may be passed over
-skip : {B : Type 0} (f : Rule → List B) (xs : List Rule) (a b : ℕ) → a ≤ b → ((j : ℕ) → a ≤ j → j < b → f (nth xs j) ≡ []) → flatMap f (drop a xs) ≡ flatMap f (drop b xs)
+skip : {B : Type 0} (f : Rule → List B) (xs : List Rule) (a b : ℕ) → a ≤ b → ((j : ℕ) → a ≤ j → j < b → f (nth xs j) ≡ []) → flatMap f
+    (drop a xs) ≡ flatMap f (drop b xs)
 unfolding flatMap
 skip f [] a b l h = ap (flatMap f) (drop-of-length-le [] {i = a} (omega arith) ∙ sym (drop-of-length-le [] {i = b} (omega arith)))
 skip f (x ∷ xs) zero zero l h = refl
-skip f (x ∷ xs) zero (suc b) l h = ap (λ zs. zs ++ flatMap f xs) (h 0 (omega arith) (omega arith)) ∙ skip f xs zero b (omega arith) (λ j m n. h (suc j) (omega arith) (omega arith))
+skip f (x ∷ xs) zero (suc b) l h = ap (λ zs. zs ++ flatMap f xs) (h 0 (omega arith) (omega arith)) ∙ skip f xs zero b (omega arith)
+    (λ j m n. h (suc j) (omega arith) (omega arith))
 skip f (x ∷ xs) (suc a) zero l h = absurd (omega arith)
 skip f (x ∷ xs) (suc a) (suc b) l h = skip f xs a b (omega arith) (λ j m n. h (suc j) (omega arith) (omega arith))
 
@@ -43,14 +45,18 @@ pub record ChainedBy (key : Rule → ℕ) (keys : ℕ) (read : ℕ → ℕ) (xs 
 -- ---- along a chain
 
 -- what rule j gives, and those behind it
-pub rules-next : (xs : List Rule) {n j : ℕ} → length xs ≡ n → j < n → {B : Type 0} (f : Rule → List B) → flatMap f (drop j xs) ≡ f (nth xs j) ++ flatMap f (drop (j + 1) xs)
+pub rules-next : (xs : List Rule) {n j : ℕ} → length xs ≡ n → j < n → {B : Type 0} (f : Rule → List B) → flatMap f (drop j xs) ≡ f
+    (nth xs j) ++ flatMap f (drop (j + 1) xs)
 unfolding flatMap
-rules-next xs {j = j} number l f = ap (flatMap f) (drop-cons xs j (one 0 0) (omega arith)) ∙ ap (λ (k : ℕ). f (nth xs j) ++ flatMap f (drop k xs)) (sym (add-one j))
+rules-next xs {j = j} number l f = ap (flatMap f)
+    (drop-cons xs j (one 0 0) (omega arith)) ∙ ap (λ (k : ℕ). f (nth xs j) ++ flatMap f (drop k xs)) (sym (add-one j))
 
-module _ {key : Rule → ℕ} {keys : ℕ} {read : ℕ → ℕ} {xs : List Rule} {heads nexts : List ℕ} (c : ChainedBy key keys read xs heads nexts 0) where
+module _ {key : Rule → ℕ} {keys : ℕ} {read : ℕ → ℕ} {xs : List Rule} {heads nexts : List ℕ}
+    (c : ChainedBy key keys read xs heads nexts 0) where
   -- what is given along the chain of key k, where a rule with another key gives nothing
   module _ {B : Type 0} (f : Rule → List B) {k : ℕ} (apart : (x : Rule) → key x ≢ k → f x ≡ []) where
-    pub chain-first : {q i : ℕ} → q ≡ k → q < keys → i ≡ getD heads q 0 → (flatMap f xs ≡ flatMap f (drop i xs)) × (i < length xs → key (nth xs i) ≡ k)
+    pub chain-first : {q i : ℕ} → q ≡ k → q < keys → i ≡ getD heads q 0 → (flatMap f xs ≡ flatMap f (drop i xs)) ×
+        (i < length xs → key (nth xs i) ≡ k)
     chain-first {q} {i} e l is =
         let h : First key xs k 0 i = rw (is, ← e) (c .head q l) in
         (past f apart h, h .there)
@@ -73,12 +79,14 @@ module _ {key : Rule → ℕ} {keys : ℕ} {read : ℕ → ℕ} {xs : List Rule}
   chained-none {n = n} e room = record {
     wide = length-replicate {A = ℕ} keys n;
     room = omega arith;
-    head = λ k l. rw (getD-replicate {A = ℕ} keys k n 0 l) (record { later = omega arith; few = omega arith; there = λ m. absurd (omega arith); least = λ j m o. absurd (omega arith) });
+    head = λ k l. rw (getD-replicate {A = ℕ} keys k n 0 l)
+        (record { later = omega arith; few = omega arith; there = λ m. absurd (omega arith); least = λ j m o. absurd (omega arith) });
     next = λ j l m. absurd (omega arith);
   }
 
   -- rule j comes before the first of its key, which its new entry w has
-  module _ {heads nexts : List ℕ} {i j k w : ℕ} (c : ChainedBy key keys read xs heads nexts i) (here : i ≡ j + 1) (l : j < length xs) (is : k ≡ key (nth xs j)) (small : k < keys)
+  module _ {heads nexts : List ℕ} {i j k w : ℕ} (c : ChainedBy key keys read xs heads nexts i) (here : i ≡ j + 1) (l : j < length xs)
+      (is : k ≡ key (nth xs j)) (small : k < keys)
       (behind : read w ≡ getD heads k 0) where
     head-more : (m : ℕ) → m < keys → First key xs m j (getD (set heads k j) m 0)
     head-more m inside = go (told (eqb m k))
@@ -86,7 +94,8 @@ module _ {key : Rule → ℕ} {keys : ℕ} {read : ℕ → ℕ} {xs : List Rule}
         go : Told (eqb m k) → First key xs m j (getD (set heads k j) m 0)
         go (yea t) =
             let e : m ≡ k = same m k t in
-            rw (e, getD-set-same heads k j 0 (omega (arith, c .wide))) (record { later = omega arith; few = omega arith; there = λ _. sym is; least = λ n p q. absurd (omega arith) })
+            rw (e, getD-set-same heads k j 0 (omega (arith, c .wide)))
+            (record { later = omega arith; few = omega arith; there = λ _. sym is; least = λ n p q. absurd (omega arith) })
         go (nay t) =
             let d = eqb-no {m = m} {n = k} t in
             let h = c .head m inside in
@@ -118,5 +127,6 @@ module _ {key : Rule → ℕ} {keys : ℕ} {read : ℕ → ℕ} {xs : List Rule}
     }
 
   -- every rule is chained
-  pub chained-all : {heads nexts : List ℕ} {i : ℕ} → ChainedBy key keys read xs heads nexts i → i ≤ 0 → ChainedBy key keys read xs heads nexts 0
+  pub chained-all : {heads nexts : List ℕ} {i : ℕ} → ChainedBy key keys read xs heads nexts i → i ≤ 0 → ChainedBy key keys read xs heads
+      nexts 0
   chained-all {i = i} c l = let e : i ≡ 0 = omega arith in rw e at c

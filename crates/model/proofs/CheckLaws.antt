@@ -18,7 +18,8 @@ passes-inj {A} {a} e = ap value e
     value (refuses n i) = a
 
 -- a sequence passes where each of its checks does
-pub bind-inv : {A B : Type 0} (c : Checked A) (f : A → Checked B) {b : B} → (c >>= f) ≡ passes b → (a : A) × (c ≡ passes a) × (f a ≡ passes b)
+pub bind-inv : {A B : Type 0} (c : Checked A) (f : A → Checked B) {b : B} → (c >>= f) ≡ passes b → (a : A) × (c ≡ passes a) ×
+    (f a ≡ passes b)
 unfolding _>>=_
 bind-inv (passes a) f e = (a, refl, e)
 bind-inv (refuses n i) f e = absurd (refuses≢passes e)
@@ -56,7 +57,8 @@ abbrev pub RefusesBy : {A : Type 0} → ℕ → Checked A → Type 0
 RefusesBy n (passes a) = Unit {0}
 RefusesBy n (refuses m i) = m ≡ n
 
-pub bind-refuses : {A B : Type 0} (n : ℕ) (c : Checked A) (f : A → Checked B) → RefusesBy n c → ((a : A) → RefusesBy n (f a)) → RefusesBy n (c >>= f)
+pub bind-refuses : {A B : Type 0} (n : ℕ) (c : Checked A) (f : A → Checked B) → RefusesBy n c → ((a : A) → RefusesBy n (f a)) → RefusesBy n
+    (c >>= f)
 unfolding _>>=_
 bind-refuses n (passes a) f h k = k a
 bind-refuses n (refuses m i) f h k = h

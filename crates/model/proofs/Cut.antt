@@ -49,7 +49,8 @@ words-cut (suc q) b = rw four (go b (words-cut q))
     none : take {A = ℕ} q [] ≡ []
     none = take-all q [] (omega arith)
 
-    go : (b : List ℕ) → ((r : List ℕ) → file-words (take (4 * q) r) ≡ take q (file-words r)) → file-words (take (suc (suc (suc (suc (4 * q))))) b) ≡ take (suc q) (file-words b)
+    go : (b : List ℕ) → ((r : List ℕ) → file-words (take (4 * q) r) ≡ take q (file-words r)) → file-words
+        (take (suc (suc (suc (suc (4 * q))))) b) ≡ take (suc q) (file-words b)
     go [] next = refl
     go (w ∷ []) next = rw none
     go (w ∷ x ∷ []) next = rw none
@@ -61,7 +62,8 @@ too-long : (ws : List ℕ) (t : Sheet) → 16384 < length ws → sheet-of ws ≡
 too-long ws t h e = let (w, ranges) = sheet-passes ws t .0 e in omega (arith, ap length w, ranges .few-words)
 
 -- where neither of two lengths passes, the place is the same
-ended-same : (a b : ℕ) (g : Got Sheet) → ((t : Sheet) → ended a g ≡ passes t → ⊥) → ((t : Sheet) → ended b g ≡ passes t → ⊥) → ended a g ≡ ended b g
+ended-same : (a b : ℕ) (g : Got Sheet) → ((t : Sheet) → ended a g ≡ passes t → ⊥) →
+    ((t : Sheet) → ended b g ≡ passes t → ⊥) → ended a g ≡ ended b g
 unfolding ended
 ended-same a b (bad k) h i = refl
 ended-same a b (got t n) h i = go (eqb n a) (eqb n b) (h t) (i t)
@@ -135,7 +137,8 @@ last-free b (c ∷ l) (t, f) = last-free c l f
 -- ---- one line after the lines that are done
 
 -- whether it is good does not depend on the lines after it
-same-good : (done : List (List ℕ)) (k : ℕ) (l : List ℕ) → length done ≡ k → (x y : List (List ℕ)) → good-line (done ++ x) k l ≡ good-line (done ++ y) k l
+same-good : (done : List (List ℕ)) (k : ℕ) (l : List ℕ) → length done ≡ k → (x y : List (List ℕ)) → good-line (done ++ x) k l ≡ good-line
+    (done ++ y) k l
 unfolding good-line
 same-good done k l e x y = rw (take-at done x k e, take-at done y k e)
 
@@ -186,7 +189,8 @@ module _ (more : List ℕ) where
         place = offset;
         alone = rw alone (on-bad done k offset (b ∷ l) [] (not-good k (b ∷ l) _ (unended b l f)));
         longer = rw (open-first b l more f)
-            (on-bad done k offset ((b ∷ l) ++ w) _ (not-good k ((b ∷ l) ++ w) _ (λ g. omega (arith, g .few, g .short, bare-length ((b ∷ l) ++ w), length-append (b ∷ l) w))));
+            (on-bad done k offset ((b ∷ l) ++ w) _
+            (not-good k ((b ∷ l) ++ w) _ (λ g. omega (arith, g .few, g .short, bare-length ((b ∷ l) ++ w), length-append (b ∷ l) w))));
       }
 
   line-refused : (l rest : List ℕ) → Free l → Long rest → Long (l ++ (line-feed ∷ rest))
@@ -224,7 +228,8 @@ module _ (more : List ℕ) where
 names-refused : (u more : List ℕ) → 1600 < length u → (i : ℕ) × (names-of u ≡ refuses 8 i) × (names-of (u ++ more) ≡ refuses 8 i)
 unfolding names-of
 names-refused [] more h = absurd (omega arith)
-names-refused (b ∷ s) more h = let r = refused more (by-lines (b ∷ s)) [] 0 0 refl (omega arith) (omega arith) in (r .place, r .alone, r .longer)
+names-refused (b ∷ s) more h = let r = refused more (by-lines (b ∷ s)) [] 0 0 refl (omega arith) (omega arith) in
+    (r .place, r .alone, r .longer)
 
 pub names-short : (list : List ℕ) {g : ℕ} → names-of list ≡ passes g → length list ≤ 1600
 names-short list e = go (told (leb (length list) 1600))

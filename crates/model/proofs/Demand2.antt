@@ -33,7 +33,8 @@ Names x q = (m : ℕ) × ((x ≡ accepted q m) ⊎ (x ≡ refused q m))
 pub data Meant (s : Sheet) (e : Element) : Said → Type 0 where
   accepts : {q m : ℕ} → Takes s e q → q ∈ s .final → Meant s e (accepted q m)
   refuses : {q m : ℕ} → Takes s e q → (q ∈ s .final → ⊥) → Meant s e (refused q m)
-  sticks : {i m : ℕ} → Single (s .rules) (nodes e) → NoState (s .rules) e → Highest (NoState (s .rules)) (SomeState (s .rules)) (nodes e) i → Meant s e (stuck i m)
+  sticks : {i m : ℕ} → Single (s .rules) (nodes e) → NoState (s .rules) e → Highest (NoState (s .rules)) (SomeState (s .rules))
+      (nodes e) i → Meant s e (stuck i m)
   doubles : {i : ℕ} → Highest (ReachesTwo (s .rules)) (AtMostOne (s .rules)) (nodes e) i → Meant s e (refusal 23 i)
 
 module _ (s : Sheet) (e : Element) where
@@ -43,7 +44,8 @@ module _ (s : Sheet) (e : Element) where
   final-meant q m t (yea y) = rw y (accepts t (has-∈ (s .final) y))
   final-meant q m t (nay n) = rw n (refuses t (λ i. false≢true (sym n ∙ ∈-has i)))
 
-  states-meant : (st : List ℕ) (m : ℕ) → Single (s .rules) (nodes e) → StatesOf (s .rules) (nodes e) st → Meant s e (root-verdict (s .final) st m)
+  states-meant : (st : List ℕ) (m : ℕ) → Single (s .rules) (nodes e) → StatesOf (s .rules) (nodes e) st → Meant s e
+      (root-verdict (s .final) st m)
   unfolding root-verdict
   states-meant [] m u t = absurd (root-has-word e t)
   states-meant (zero ∷ st) m u t = sticks u (root-word e t) (root-stuck t)
@@ -106,7 +108,8 @@ module _ (s : Sheet) (e : Element) where
   means-two (doubles {i = i} h) t = (i, refl)
 
   -- stuck otherwise, at the highest-numbered node that reaches no state
-  stuck-means : {i m : ℕ} → Meant s e (stuck i m) → Single (s .rules) (nodes e) × NoState (s .rules) e × Highest (NoState (s .rules)) (SomeState (s .rules)) (nodes e) i
+  stuck-means : {i m : ℕ} → Meant s e (stuck i m) → Single (s .rules) (nodes e) × NoState (s .rules) e × Highest (NoState (s .rules))
+      (SomeState (s .rules)) (nodes e) i
   stuck-means (sticks u n h) = (u, n, h)
 
   means-stuck : {x : Said} → Meant s e x → Single (s .rules) (nodes e) → NoState (s .rules) e → (i m : ℕ) × (x ≡ stuck i m)
@@ -126,7 +129,8 @@ module _ (sheet tree states : List ℕ) {s : Sheet} {e : Element}
   tree-is = tree-passes (s .tags) (in-range .few-tags) tree e .0 tree-ok
 
   says : RunSays (s .rules) e (run (s .rules) (items tree))
-  says = subst (λ t. RunSays (s .rules) e (run (s .rules) (items t))) (sym (tree-is .0)) (run-says (s .rules) e (over-formed (s .tags) (in-range .few-tags) e (tree-is .1)))
+  says = subst (λ t. RunSays (s .rules) e (run (s .rules) (items t))) (sym (tree-is .0))
+      (run-says (s .rules) e (over-formed (s .tags) (in-range .few-tags) e (tree-is .1)))
 
   judged : judge sheet tree (length states) ≡ passes (record { final = s .final; nodes = size e; outcome = run (s .rules) (items tree) })
   unfolding judge _>>=_ _>>_ require room-for
@@ -156,7 +160,8 @@ module _ (sheet tree states : List ℕ) {s : Sheet} {e : Element}
   verdict-two = (λ t. gives-two s e (two-means s e (subst (Meant s e) (t .1) meant)), means-two s e meant)
 
   -- … and its place is the highest-numbered such node.
-  pub verdict-two-at : (i : ℕ) → (judge-said sheet tree states ≡ refusal 23 i) ↔ Highest (ReachesTwo (s .rules)) (AtMostOne (s .rules)) (nodes e) i
+  pub verdict-two-at : (i : ℕ) → (judge-said sheet tree states ≡ refusal 23 i) ↔ Highest (ReachesTwo (s .rules)) (AtMostOne (s .rules))
+      (nodes e) i
   verdict-two-at i = (λ t. two-means s e (subst (Meant s e) t meant), back)
     where
       back : Highest (ReachesTwo (s .rules)) (AtMostOne (s .rules)) (nodes e) i → judge-said sheet tree states ≡ refusal 23 i
@@ -166,14 +171,19 @@ module _ (sheet tree states : List ℕ) {s : Sheet} {e : Element}
 
   -- Without such a node, none at the root is stuck …
   pub verdict-stuck : ((i m : ℕ) × (judge-said sheet tree states ≡ stuck i m)) ↔ (Single (s .rules) (nodes e) × NoState (s .rules) e)
-  verdict-stuck = (λ t. let (u, n, h) = stuck-means s e (subst (Meant s e) (t .2) meant) in (u, n), λ t. means-stuck s e meant (t .0) (t .1))
+  verdict-stuck = (
+    λ t. let (u, n, h) = stuck-means s e (subst (Meant s e) (t .2) meant) in (u, n),
+    λ t. means-stuck s e meant (t .0) (t .1),
+  )
 
   -- … with the highest-numbered node that reaches no state.
-  pub verdict-stuck-at : (i m : ℕ) → judge-said sheet tree states ≡ stuck i m → Highest (NoState (s .rules)) (SomeState (s .rules)) (nodes e) i
+  pub verdict-stuck-at : (i m : ℕ) → judge-said sheet tree states ≡ stuck i m → Highest (NoState (s .rules)) (SomeState (s .rules))
+      (nodes e) i
   verdict-stuck-at i m t = stuck-means s e (subst (Meant s e) t meant) .2
 
   -- Each state word is what the relation gives that node; the words past them keep their contents.
-  states-front : (r : Ran) → RunSays (s .rules) e r → Single (s .rules) (nodes e) → (st : List ℕ) × (first-states (size e) r ≡ st) × (length st ≡ size e) × StatesOf (s .rules) (nodes e) st
+  states-front : (r : Ran) → RunSays (s .rules) e r → Single (s .rules) (nodes e) → (st : List ℕ) × (first-states (size e) r ≡ st) ×
+      (length st ≡ size e) × StatesOf (s .rules) (nodes e) st
   unfolding first-states
   states-front (ran st m) (u, t, b) v = (st, refl, length-states t ∙ length-nodes e, t)
   states-front (two-at i) h v = absurd (not-two s e v h)
@@ -181,7 +191,8 @@ module _ (sheet tree states : List ℕ) {s : Sheet} {e : Element}
   pub states-say : Single (s .rules) (nodes e) → StatesOf (s .rules) (nodes e) (take (size e) (judge-states sheet tree states))
   states-say u =
       let (st, i, n, t) = states-front (run (s .rules) (items tree)) says u in
-      subst (StatesOf (s .rules) (nodes e)) (sym (ap (take (size e)) (states-are ∙ ap (λ l. l ++ drop (size e) states) i) ∙ take-at st (drop (size e) states) (size e) n)) t
+      subst (StatesOf (s .rules) (nodes e))
+      (sym (ap (take (size e)) (states-are ∙ ap (λ l. l ++ drop (size e) states) i) ∙ take-at st (drop (size e) states) (size e) n)) t
 
   -- 23 zeroes the first n state words.
   front-length : (r : Ran) → RunSays (s .rules) e r → length (first-states (size e) r) ≡ size e
@@ -201,7 +212,8 @@ module _ (sheet tree states : List ℕ) {s : Sheet} {e : Element}
 
   pub states-past : drop (size e) (judge-states sheet tree states) ≡ drop (size e) states
   states-past =
-      ap (drop (size e)) states-are ∙ drop-at (first-states (size e) (run (s .rules) (items tree))) (drop (size e) states) (size e) (front-length (run (s .rules) (items tree)) says)
+      ap (drop (size e)) states-are ∙ drop-at (first-states (size e) (run (s .rules) (items tree))) (drop (size e) states) (size e)
+      (front-length (run (s .rules) (items tree)) says)
 
   -- Looks are at most 2 × n × R, and fit 32 bits.
   run-looks : (r : Ran) → RunSays (s .rules) e r → looks-in (verdict (s .final) r) ≤ 2 * size e * length (s .rules)

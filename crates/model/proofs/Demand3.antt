@@ -61,7 +61,10 @@ module _ {tree : List ℕ} {e : Element} where
 
   accepts-read : (u : Reading) (S : Sheet-on tree e) → AcceptsIt u S ↔ Accepts (S .sheet) e
   accepts-read by-rules S = (λ t. t, λ t. t)
-  accepts-read by-run S = (λ t. let (q, m, i) = t in let (h, f) = accepted-is q .0 (m, i) in (q, h, f), λ t. let (q, h, f) = t in let (m, i) = accepted-is q .1 (h, f) in (q, m, i))
+  accepts-read by-run S = (
+    λ t. let (q, m, i) = t in let (h, f) = accepted-is q .0 (m, i) in (q, h, f),
+    λ t. let (q, h, f) = t in let (m, i) = accepted-is q .1 (h, f) in (q, m, i),
+  )
     where
       accepted-is : (q : ℕ) → ((m : ℕ) × (S .verdict ≡ accepted q m)) ↔ (Takes (S .sheet) e q × (q ∈ S .sheet .final))
       accepted-is = rw (S .returned) (verdict-accepts (S .words) tree (S .states) (S .passed) (S .over) (S .room))
@@ -93,7 +96,8 @@ in-second-inv (refuses n i) h = absurd (refuses≢passes h)
 
 -- Two sheets that join within the limits are both read, and their tags agree.
 joined-inv : (first second : List ℕ) {j : Sheet} → joined first second ≡ passes j
-    → (s t : Sheet) × (sheet-of first ≡ passes s) × (sheet-of second ≡ passes t) × (s .tags ≡ t .tags) × (within-limits (joint s t) ≡ passes tt) × (joint s t ≡ j)
+    → (s t : Sheet) × (sheet-of first ≡ passes s) × (sheet-of second ≡ passes t) × (s .tags ≡ t .tags) ×
+    (within-limits (joint s t) ≡ passes tt) × (joint s t ≡ j)
 unfolding joined
 joined-inv first second h =
     let (s, hs, h₁) = bind-inv (sheet-of first) _ h in
@@ -102,7 +106,8 @@ joined-inv first second h =
     let (u, hu, h₄) = then-inv (within-limits (joint s t)) _ h₃ in
     (s, t, hs, in-second-inv (sheet-of second) ht, eqb-true _ _ y, hu, passes-inj h₄)
 
-join-inv : (first second : List ℕ) (room : ℕ) {ws : List ℕ} → join first second room ≡ passes ws → (j : Sheet) × (joined first second ≡ passes j) × (sheet-words j ≡ ws)
+join-inv : (first second : List ℕ) (room : ℕ) {ws : List ℕ} → join first second room ≡ passes ws → (j : Sheet) ×
+    (joined first second ≡ passes j) × (sheet-words j ≡ ws)
 unfolding join
 join-inv first second room h =
     let (j, hj, h₁) = bind-inv (joined first second) _ h in
@@ -110,7 +115,8 @@ join-inv first second room h =
     (j, hj, passes-inj h₂)
 
 -- The words that a join writes pass the sheet check, and are read as the joint sheet.
-pub join-passes : (first second : List ℕ) (room : ℕ) {ws : List ℕ} {s t : Sheet} → sheet-of first ≡ passes s → sheet-of second ≡ passes t → join first second room ≡ passes ws
+pub join-passes : (first second : List ℕ)
+    (room : ℕ) {ws : List ℕ} {s t : Sheet} → sheet-of first ≡ passes s → sheet-of second ≡ passes t → join first second room ≡ passes ws
     → (ws ≡ sheet-words (joint s t)) × (sheet-of ws ≡ passes (joint s t))
 join-passes first second room {ws} {s} {t} fs ft h =
     let (j, hj, hw) = join-inv first second room h in
@@ -123,7 +129,8 @@ join-passes first second room {ws} {s} {t} fs ft h =
     (e, sheet-passes ws (joint s t) .1 (e, subst InRange ej range))
 
 -- The words that a swap writes pass, and are read as the swapped sheet.
-pub swap-passes : (words : List ℕ) (room : ℕ) {ws : List ℕ} {s : Sheet} → sheet-of words ≡ passes s → swap words room ≡ passes ws → (ws ≡ sheet-words (swapped s)) × (sheet-of ws ≡ passes (swapped s))
+pub swap-passes : (words : List ℕ) (room : ℕ) {ws : List ℕ} {s : Sheet} → sheet-of words ≡ passes s → swap words room ≡ passes ws →
+    (ws ≡ sheet-words (swapped s)) × (sheet-of ws ≡ passes (swapped s))
 unfolding swap
 swap-passes words room {ws} {s} hs h =
     let (s′, hs′, h₁) = bind-inv (sheet-of words) _ h in
@@ -134,7 +141,8 @@ swap-passes words room {ws} {s} hs h =
 
 -- ---- the demand, for sheets S and T that join within the limits, J the words that the join writes, and a form over their tags
 
-module _ {tree : List ℕ} {e : Element} (S T J : Sheet-on tree e) (room : ℕ) (joins : join (S .words) (T .words) room ≡ passes (J .words)) where
+module _ {tree : List ℕ} {e : Element} (S T J : Sheet-on tree e) (room : ℕ)
+    (joins : join (S .words) (T .words) room ≡ passes (J .words)) where
   S-range : InRange (S .sheet)
   S-range = sheet-passes (S .words) (S .sheet) .0 (S .passed) .1
 
@@ -148,7 +156,8 @@ module _ {tree : List ℕ} {e : Element} (S T J : Sheet-on tree e) (room : ℕ) 
   pub joint-looks : looks-in (J .verdict) ≤ 2 * size e * (length (S .sheet .rules) * length (T .sheet .rules))
   joint-looks =
       le-trans (rw (J .returned) (looks-bound (J .words) tree (J .states) (J .passed) (J .over) (J .room)))
-      (mul-le-mul-left (2 * size e) (subst (λ (j : Sheet). length (j .rules) ≤ length (S .sheet .rules) * length (T .sheet .rules)) (sym joint-is) (joint-rule-count (S .sheet) (T .sheet))))
+      (mul-le-mul-left (2 * size e) (subst (λ (j : Sheet). length (j .rules) ≤ length (S .sheet .rules) * length (T .sheet .rules))
+      (sym joint-is) (joint-rule-count (S .sheet) (T .sheet))))
 
   -- on which neither gives two outcomes
   module _ (a b : Reading) (S-one : NoTwo a S) (T-one : NoTwo b T) where
@@ -161,10 +170,13 @@ module _ {tree : List ℕ} {e : Element} (S T J : Sheet-on tree e) (room : ℕ) 
     -- The joint sheet doesn't either.
     pub joint-gives-no-two : (w : Reading) → NoTwo w J
     joint-gives-no-two w =
-        two-read w J .1 (none-two (J .sheet) e (subst (λ (j : Sheet). Single (j .rules) (nodes e)) (sym joint-is) (joint-single (S .sheet) (T .sheet) S-range T-range e S-single T-single)))
+        two-read w J .1 (none-two (J .sheet) e
+        (subst (λ (j : Sheet). Single (j .rules) (nodes e)) (sym joint-is)
+        (joint-single (S .sheet) (T .sheet) S-range T-range e S-single T-single)))
 
     -- It takes the form to the pair (q, r) exactly when S takes it to q and T to r.
-    pub joint-takes-pair : (u v w : Reading) (q r : ℕ) → r < T .sheet .states → TakesTo w J (pair (T .sheet .states) q r) ↔ (TakesTo u S q × TakesTo v T r)
+    pub joint-takes-pair : (u v w : Reading) (q r : ℕ) → r < T .sheet .states → TakesTo w J (pair (T .sheet .states) q r) ↔
+        (TakesTo u S q × TakesTo v T r)
     joint-takes-pair u v w q r h = (there, back)
       where
         product : Takes (joint (S .sheet) (T .sheet)) e (pair (T .sheet .states) q r) ↔ (Takes (S .sheet) e q × Takes (T .sheet) e r)
@@ -176,7 +188,8 @@ module _ {tree : List ℕ} {e : Element} (S T J : Sheet-on tree e) (room : ℕ) 
             (takes-read u S q .1 x, takes-read v T r .1 y)
 
         back : TakesTo u S q × TakesTo v T r → TakesTo w J (pair (T .sheet .states) q r)
-        back t = takes-read w J _ .1 (subst (λ (j : Sheet). Takes j e (pair (T .sheet .states) q r)) (sym joint-is) (product .1 (takes-read u S q .0 (t .0), takes-read v T r .0 (t .1))))
+        back t = takes-read w J _ .1 (subst (λ (j : Sheet). Takes j e (pair (T .sheet .states) q r)) (sym joint-is)
+            (product .1 (takes-read u S q .0 (t .0), takes-read v T r .0 (t .1))))
 
     -- It accepts exactly when both accept.
     pub joint-accepts-both : (u v w : Reading) → AcceptsIt w J ↔ (AcceptsIt u S × AcceptsIt v T)
@@ -191,7 +204,8 @@ module _ {tree : List ℕ} {e : Element} (S T J : Sheet-on tree e) (room : ℕ) 
             (accepts-read u S .1 x, accepts-read v T .1 y)
 
         back : AcceptsIt u S × AcceptsIt v T → AcceptsIt w J
-        back t = accepts-read w J .1 (subst (λ (j : Sheet). Accepts j e) (sym joint-is) (product .1 (accepts-read u S .0 (t .0), accepts-read v T .0 (t .1))))
+        back t = accepts-read w J .1 (subst (λ (j : Sheet). Accepts j e) (sym joint-is)
+            (product .1 (accepts-read u S .0 (t .0), accepts-read v T .0 (t .1))))
 
 -- The swapped sheet, W the words that the swap writes, accepts exactly what the sheet takes to a state that isn't final.
 pub swapped-accepts-rest : {tree : List ℕ} {e : Element} (S W : Sheet-on tree e) (room : ℕ) → swap (S .words) room ≡ passes (W .words)
@@ -205,7 +219,8 @@ swapped-accepts-rest {tree} {e} S W room swaps u w = (there, back)
     rest = swapped-accepts (S .sheet) (sheet-passes (S .words) (S .sheet) .0 (S .passed) .1) e
 
     there : AcceptsIt w W → (q : ℕ) × TakesTo u S q × (q ∈ S .sheet .final → ⊥)
-    there t = let (q, h, f) = rest .0 (subst (λ (s : Sheet). Accepts s e) swapped-is (accepts-read w W .0 t)) in (q, takes-read u S q .1 h, f)
+    there t = let (q, h, f) = rest .0 (subst (λ (s : Sheet). Accepts s e) swapped-is (accepts-read w W .0 t)) in
+        (q, takes-read u S q .1 h, f)
 
     back : (q : ℕ) × TakesTo u S q × (q ∈ S .sheet .final → ⊥) → AcceptsIt w W
     back (q, h, f) = accepts-read w W .1 (subst (λ (s : Sheet). Accepts s e) (sym swapped-is) (rest .1 (q, takes-read u S q .0 h, f)))

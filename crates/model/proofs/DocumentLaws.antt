@@ -27,7 +27,8 @@ unfolding ends-in-text behind
 ends-behind b ε f = refl
 ends-behind b (e · d) f = ends-behind (is-text e) d f
 
-pub keeps-behind : (g levels : ℕ) (b : Bool) (d : Document) (f : Element) → KeepsD g levels b d → (ends-in-text b d && is-text f) ≡ false → Keeps g levels f
+pub keeps-behind : (g levels : ℕ) (b : Bool) (d : Document) (f : Element) → KeepsD g levels b d →
+    (ends-in-text b d && is-text f) ≡ false → Keeps g levels f
     → KeepsD g levels b (behind d f)
 unfolding ends-in-text behind
 keeps-behind g levels b ε f k h l = (h, l, tt)
@@ -44,7 +45,8 @@ pub size-behind : (d : Document) (f : Element) → sizeD (behind d f) ≡ sizeD 
 unfolding size
 size-behind d f = sum-behind sizeD size refl (λ e c. refl) d f
 
-pub written-behind : (list s : List ℕ) (d : Document) (f : Element) → length (writtenD list s (behind d f)) ≡ length (writtenD list s d) + length (written list s f)
+pub written-behind : (list s : List ℕ) (d : Document) (f : Element) → length (writtenD list s (behind d f)) ≡ length
+    (writtenD list s d) + length (written list s f)
 unfolding written
 written-behind list s d f = sum-behind (λ c. length (writtenD list s c)) (λ e. length (written list s e)) refl
     (λ e c. length-append (written list s e) (writtenD list s c)) d f
@@ -75,7 +77,8 @@ Good s d = GoodNodes s (nodesD d)
 pub good-behind : (s : List ℕ) (d : Document) (f : Element) → Good s d → GoodNodes s (nodes f) → Good s (behind d f)
 unfolding behind nodes
 good-behind s ε f h k = rw (append-nil (nodes f)) k
-good-behind s (e · d) f h k = let (u, v) = every-append (good-words s) (nodes e) (nodesD d) h in every-both (good-words s) (nodes e) (nodesD (behind d f)) u (good-behind s d f v k)
+good-behind s (e · d) f h k = let (u, v) = every-append (good-words s) (nodes e) (nodesD d) h in every-both (good-words s) (nodes e)
+    (nodesD (behind d f)) u (good-behind s d f v k)
 
 -- they are what 11 asks for
 pub texts-good : (s : List ℕ) (i : ℕ) (l : List Element) → (texts-checked s i l ≡ passes tt) ↔ GoodNodes s l

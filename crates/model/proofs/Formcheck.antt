@@ -21,7 +21,8 @@ use Rattle.model.proofs.NameLaws.{few-names}
 use Rattle.model.proofs.ReadGood.{read-good}
 use Rattle.model.proofs.RoundTrip.{one-size, one-words, room-passes}
 use Rattle.model.specs.Answers.{looks-in}
-use Rattle.model.proofs.Demand2.{Names, verdict-names, verdict-accepts, verdict-two, verdict-two-at, verdict-stuck, verdict-stuck-at, looks-bound}
+use Rattle.model.proofs.Demand2.{Names, verdict-names, verdict-accepts, verdict-two, verdict-two-at, verdict-stuck, verdict-stuck-at}
+use Rattle.model.proofs.Demand2.{looks-bound}
 
 -- The three inputs present a sheet and a form: no check before the run refuses them.
 pub record Presents (list file s : List ℕ) (t : Sheet) (e : Element) : Type 0 where
@@ -40,7 +41,15 @@ module _ {list file s : List ℕ} {t : Sheet} {e : Element} (p : Presents list f
   -- What formcheck says is what the judge says of them, wherever there is room for the states.
   pub judged : (states : List ℕ) → size e ≤ length states → formcheck list file s ≡ judge-said (file-words file) (words e) states
   unfolding formcheck judge-said judge verdict-of _>>=_ _>>_ require
-  judged states room = rw (p .names, p .sheet, p .form, eqb-yes {m = t .tags} refl, one-words e, as-tree, room-passes (size e) (length states) room)
+  judged states room = rw (
+    p .names,
+    p .sheet,
+    p .form,
+    eqb-yes {m = t .tags} refl,
+    one-words e,
+    as-tree,
+    room-passes (size e) (length states) room,
+  )
 
   states : List ℕ
   states = replicate (size e) 0
@@ -107,7 +116,8 @@ presented list file s v =
 
 module _ (list file s : List ℕ) where
   -- what tells a verdict, and of what is presented tells P of it, tells exactly that something is presented of which P holds
-  exactly : {X : Type 0} (P : Sheet → Element → Type 0) → (X → Verdict (formcheck list file s)) → ((t : Sheet) (e : Element) → Presents list file s t e → X ↔ P t e)
+  exactly : {X : Type 0} (P : Sheet → Element → Type 0) → (X → Verdict (formcheck list file s)) →
+      ((t : Sheet) (e : Element) → Presents list file s t e → X ↔ P t e)
       → X ↔ ((t : Sheet) × (e : Element) × Presents list file s t e × P t e)
   exactly {X} P verdict tells = (there, λ x. let (t, e, p, h) = x in tells t e p .1 h)
     where
@@ -123,11 +133,16 @@ module _ (list file s : List ℕ) where
       verdict (m, inr h) = subst Verdict (sym h) tt
 
   -- It is accepted exactly when they present a sheet and a form that the sheet accepts.
-  pub accepts : ((q m : ℕ) × (formcheck list file s ≡ accepted q m)) ↔ ((t : Sheet) × (e : Element) × Presents list file s t e × Accepts t e)
+  pub accepts : ((q m : ℕ) × (formcheck list file s ≡ accepted q m)) ↔
+      ((t : Sheet) × (e : Element) × Presents list file s t e × Accepts t e)
   accepts =
       exactly Accepts (λ x. subst Verdict (sym (x .2)) tt)
-      (λ t e p. (λ x. let (q, m, h) = x in let (takes, final) = accepts-state p q .0 (m, h) in (q, takes, final), λ x. let (q, takes, final) = x in let (m, h) = accepts-state p q .1 (takes, final) in (q, m, h)))
+      (λ t e p. (
+        λ x. let (q, m, h) = x in let (takes, final) = accepts-state p q .0 (m, h) in (q, takes, final),
+        λ x. let (q, takes, final) = x in let (m, h) = accepts-state p q .1 (takes, final) in (q, m, h),
+      ))
 
   -- It is stuck exactly when they present a sheet and a form of which no node reaches two states, and the root none.
-  pub sticks : ((i m : ℕ) × (formcheck list file s ≡ stuck i m)) ↔ ((t : Sheet) × (e : Element) × Presents list file s t e × (Single (t .rules) (nodes e) × NoState (t .rules) e))
+  pub sticks : ((i m : ℕ) × (formcheck list file s ≡ stuck i m)) ↔
+      ((t : Sheet) × (e : Element) × Presents list file s t e × (Single (t .rules) (nodes e) × NoState (t .rules) e))
   sticks = exactly (λ t e. Single (t .rules) (nodes e) × NoState (t .rules) e) (λ x. subst Verdict (sym (x .2)) tt) (λ t e p. is-stuck p)

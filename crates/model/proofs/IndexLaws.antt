@@ -29,7 +29,12 @@ unfolding flatMap
 begin-next p at [] k l = absurd (omega arith)
 begin-next p at (r ∷ R) zero l = omega (arith, length-append (rule-words p r) [])
 begin-next p at (r ∷ R) (suc k) l =
-    omega (arith, begin-next p at R k (omega arith), length-append (rule-words p r) (flatMap (rule-words p) (take k R)), length-append (rule-words p r) (flatMap (rule-words p) (take (suc k) R)))
+    omega (
+      arith,
+      begin-next p at R k (omega arith),
+      length-append (rule-words p r) (flatMap (rule-words p) (take k R)),
+      length-append (rule-words p r) (flatMap (rule-words p) (take (suc k) R)),
+    )
 
 pub entries-long : (p at j : ℕ) (R : List Rule) → length (entries p at j R) ≡ length R + 1
 unfolding entries
@@ -45,12 +50,20 @@ entry-is p at j (r ∷ R) zero l =
     rw e (omega arith)
 entry-is p at j (r ∷ R) (suc k) l =
     let e : j + suc (suc k) ≡ suc j + suc k = omega arith in
-    rw e (omega (arith, entry-is p (at + length (rule-words p r)) (suc j) R k (omega arith), length-append (rule-words p r) (flatMap (rule-words p) (take k R))))
+    rw e (omega (
+      arith,
+      entry-is p (at + length (rule-words p r)) (suc j) R k (omega arith),
+      length-append (rule-words p r) (flatMap (rule-words p) (take k R)),
+    ))
 
 pub entry-last : (p at j : ℕ) (R : List Rule) → getD (entries p at j R) (length R) 0 ≡ at + length (flatMap (rule-words p) R)
 unfolding entries flatMap
 entry-last p at j [] = omega arith
-entry-last p at j (r ∷ R) = omega (arith, entry-last p (at + length (rule-words p r)) (suc j) R, length-append (rule-words p r) (flatMap (rule-words p) R))
+entry-last p at j (r ∷ R) = omega (
+  arith,
+  entry-last p (at + length (rule-words p r)) (suc j) R,
+  length-append (rule-words p r) (flatMap (rule-words p) R),
+)
 
 -- ---- the first rule with a key
 
@@ -71,7 +84,13 @@ first-is xs k a (r ∷ R) l e = go (told (eqb (key r) k)) (λ h z. first-is xs k
     here = cc split
 
     later : (i : ℕ) → key r ≢ k → First key xs k (suc a) i → First key xs k a i
-    later i other h = record { later = omega (arith, h .later); few = h .few; there = h .there; least = λ j m n z. by j m n z (told (eqb j a)) }
+    later i other h = record {
+      later = omega (arith, h .later);
+      few = h .few;
+      there = h .there;
+      least = λ j m n z. by j m n z
+          (told (eqb j a));
+    }
       where
         by : (j : ℕ) → a ≤ j → j < i → key (nth xs j) ≡ k → Told (eqb j a) → ⊥
         by j m n z (yea t) = other (sym (ap key here) ∙ ap (λ (i : ℕ). key (nth xs i)) (sym (same j a t)) ∙ z)
@@ -79,7 +98,13 @@ first-is xs k a (r ∷ R) l e = go (told (eqb (key r) k)) (λ h z. first-is xs k
 
     go : Told (eqb (key r) k) → (suc a ≤ length xs → drop (suc a) xs ≡ R → First key xs k (suc a) (first-with k (suc a) R))
         → First key xs k a (cond (eqb (key r) k) a (first-with k (suc a) R))
-    go (yea t) rest = rw t (record { later = omega arith; few = l; there = λ m. ap key here ∙ same (key r) k t; least = λ j m n. absurd (omega arith) })
+    go (yea t) rest = rw t (record {
+      later = omega arith;
+      few = l;
+      there = λ m. ap key here ∙ same
+          (key r) k t;
+      least = λ j m n. absurd (omega arith);
+    })
     go (nay t) rest = rw t (later (first-with k (suc a) R) (eqb-no t) (rest some (cc split)))
 
 pub numbers-nth : {A : Type 0} (f : ℕ → A) (d : A) (n q k : ℕ) → k < n → getD (map f (from n q)) k d ≡ f (q + k)
@@ -102,7 +127,8 @@ module _ {s : List ℕ} (ok : Passes s) where
   pub rule-stands : (k : ℕ) → k < length (rules-in s) → RuleAt (sheet-in s .states) s (at-rule s k) (nth (rules-in s) k)
   rule-stands k l = part-nth (rule-words (sheet-in s .states)) (rules-in s) (one 0 0) k (rules-stand ok) l
 
-  pub rule-next : (k : ℕ) → k < length (rules-in s) → at-rule s (suc k) ≡ at-rule s k + length (rule-words (sheet-in s .states) (nth (rules-in s) k))
+  pub rule-next : (k : ℕ) → k < length (rules-in s) → at-rule s (suc k) ≡ at-rule s k + length
+      (rule-words (sheet-in s .states) (nth (rules-in s) k))
   rule-next k l = begin-next (sheet-in s .states) 6 (rules-in s) k l
 
   pub begins-within : (k : ℕ) → k ≤ length (rules-in s) → at-rule s k ≤ length s
@@ -164,7 +190,8 @@ module _ {s index : List ℕ} (h : Indexed s index) where
     rule-here = rw (e, begins k (omega arith)) (rule-stands (h .sheet) k l)
 
     -- and the next entry's where it ends, after its target
-    pub rule-ends : {v : ℕ} → v ≡ getD index (67 + (k + 1)) 0 → v % 2 ^ 16 ≡ w % 2 ^ 16 + length (rule-words (sheet-in s .states) (nth (rules-in s) k))
+    pub rule-ends : {v : ℕ} → v ≡ getD index (67 + (k + 1)) 0 → v % 2 ^ 16 ≡ w % 2 ^ 16 + length
+        (rule-words (sheet-in s .states) (nth (rules-in s) k))
     rule-ends f = rw (f, e, add-one k, begins (suc k) (omega arith), begins k (omega arith)) (rule-next (h .sheet) k l)
 
   -- ---- along a chain: what is given by rules, where a rule with another key than k gives nothing
@@ -172,10 +199,12 @@ module _ {s index : List ℕ} (h : Indexed s index) where
   head-first : (k : ℕ) → k < 67 → First key (rules-in s) k 0 (getD index k 0)
   head-first k l =
       let R = rules-in s in
-      let e : getD index k 0 ≡ first-with k 0 R = rw (zero-add k) at (word-is heads-there k (omega (arith, heads-long R)) ∙ head-is R k l) in
+      let e : getD index k 0 ≡ first-with k 0 R = rw (zero-add k)
+      at (word-is heads-there k (omega (arith, heads-long R)) ∙ head-is R k l) in
       rw e (first-is R k 0 R (omega arith) refl)
 
-  next-first : (j : ℕ) → j < length (rules-in s) → First key (rules-in s) (key (nth (rules-in s) j)) (suc j) (getD index (67 + j) 0 / 2 ^ 16)
+  next-first : (j : ℕ) → j < length (rules-in s) → First key (rules-in s) (key (nth (rules-in s) j)) (suc j)
+      (getD index (67 + j) 0 / 2 ^ 16)
   next-first j l =
       let R = rules-in s in
       rw (entry j l, halves _ _ (begins-low (h .sheet) j (omega arith)) .1) (first-is R (key (nth R j)) (suc j) (drop (suc j) R) l refl)
@@ -189,7 +218,8 @@ module _ {s index : List ℕ} (h : Indexed s index) where
     chain-first {i} l e = let first : First key (rules-in s) k 0 i = rw e (head-first k l) in (past f apart first, first .there)
 
     pub chain-next : {j i : ℕ} → j < length (rules-in s) → key (nth (rules-in s) j) ≡ k → i ≡ getD index (67 + j) 0 / 2 ^ 16
-        → (flatMap f (drop j (rules-in s)) ≡ f (nth (rules-in s) j) ++ flatMap f (drop i (rules-in s))) × (i < length (rules-in s) → key (nth (rules-in s) i) ≡ k)
+        → (flatMap f (drop j (rules-in s)) ≡ f (nth (rules-in s) j) ++ flatMap f (drop i (rules-in s))) ×
+        (i < length (rules-in s) → key (nth (rules-in s) i) ≡ k)
     chain-next {j} {i} l z e =
         let first : First key (rules-in s) k (suc j) i = rw (e, ← z) (next-first j l) in
         (rules-next (rules-in s) refl l f ∙ rw (add-one j) (ap (λ zs. f (nth (rules-in s) j) ++ zs) (past f apart first)), first .there)

@@ -30,7 +30,8 @@ times-+ (negsuc a) m n =
 
 swap-middle : (a b c d : ℤ) → (a +ℤ b) +ℤ (c +ℤ d) ≡ (a +ℤ c) +ℤ (b +ℤ d)
 swap-middle a b c d =
-    +ℤ-assoc a b (c +ℤ d) ∙ ap (λ (x : ℤ). a +ℤ x) (sym (+ℤ-assoc b c d) ∙ ap (λ (x : ℤ). x +ℤ d) (+ℤ-comm b c) ∙ +ℤ-assoc c b d) ∙ sym (+ℤ-assoc a c (b +ℤ d))
+    +ℤ-assoc a b (c +ℤ d) ∙ ap (λ (x : ℤ). a +ℤ x)
+    (sym (+ℤ-assoc b c d) ∙ ap (λ (x : ℤ). x +ℤ d) (+ℤ-comm b c) ∙ +ℤ-assoc c b d) ∙ sym (+ℤ-assoc a c (b +ℤ d))
 
 -- what one child in state q adds to a sum
 abbrev weight : List Coefficient → ℕ → ℤ
@@ -64,7 +65,8 @@ module _ (F : ℕ → List Coefficient) (x : ℕ) (other : (y : ℕ) → y ≢ x
   unfolding flatMap total
   weight-apart [] apart = refl
   weight-apart (y ∷ l) apart =
-      total-append (F y) (flatMap F l) (x ∷ []) ∙ ap₂ _+ℤ_ (other y (apart y (List·Memᴰ·head refl))) (weight-apart l (λ z m. apart z (List·Memᴰ·tail m)))
+      total-append (F y) (flatMap F l) (x ∷ []) ∙ ap₂ _+ℤ_ (other y (apart y (List·Memᴰ·head refl)))
+      (weight-apart l (λ z m. apart z (List·Memᴰ·tail m)))
 
   weight-pick : {l : List ℕ} → Ascending l → x ∈ l → weight (flatMap F l) x ≡ weight (F x) x
   unfolding flatMap
@@ -92,31 +94,36 @@ coefficient-weight : (cs : List Coefficient) (q x : ℕ) → weight (coefficient
 unfolding coefficient-of flatMap total occurrences
 coefficient-weight [] q x = refl
 coefficient-weight (c ∷ cs) q x =
-    total-append (only (eqb (c .state) q) _) (coefficient-of cs q x) (x ∷ []) ∙ ap₂ _+ℤ_ (only-weight (eqb (c .state) q) (c .times) x) (coefficient-weight cs q x)
+    total-append (only (eqb (c .state) q) _) (coefficient-of cs q x) (x ∷ []) ∙ ap₂ _+ℤ_ (only-weight (eqb (c .state) q) (c .times) x)
+    (coefficient-weight cs q x)
 
 coefficient-apart : (cs : List Coefficient) (q y x : ℕ) → y ≢ x → weight (coefficient-of cs q y) x ≡ pos zero
 unfolding coefficient-of flatMap total
 coefficient-apart [] q y x h = refl
 coefficient-apart (c ∷ cs) q y x h =
-    total-append (only (eqb (c .state) q) _) (coefficient-of cs q y) (x ∷ []) ∙ ap₂ _+ℤ_ (only-apart (eqb (c .state) q) (c .times) y x h) (coefficient-apart cs q y x h)
+    total-append (only (eqb (c .state) q) _) (coefficient-of cs q y) (x ∷ []) ∙ ap₂ _+ℤ_ (only-apart (eqb (c .state) q) (c .times) y x h)
+    (coefficient-apart cs q y x h)
 
 module _ (side : Side) (n : Sizes) where
   lifted-weight : (cs : List Coefficient) {x : ℕ} → x < of-pairs n → weight (lift-sum side n cs) x ≡ weight cs (half side (n .of-T) x)
   unfolding lift-sum
   lifted-weight cs {x} h =
-      weight-pick (λ y. coefficient-of cs (half side (n .of-T) y) y) x (λ y d. coefficient-apart cs _ y x d) (asc-from (of-pairs n) 0) (∈-numbers (of-pairs n) h)
+      weight-pick (λ y. coefficient-of cs (half side (n .of-T) y) y) x (λ y d. coefficient-apart cs _ y x d) (asc-from (of-pairs n) 0)
+      (∈-numbers (of-pairs n) h)
       ∙ coefficient-weight cs (half side (n .of-T) x) x
 
   -- a lifted sum of a word is the sum of its halves
   lifted-total : (cs : List Coefficient) (w : List ℕ) → AllBelow (of-pairs n) w → total (lift-sum side n cs) w ≡ total cs (halves side n w)
   lifted-total cs [] b = total-nil (lift-sum side n cs) ∙ sym (total-nil cs)
   lifted-total cs (x ∷ w) (h, b) =
-      total-cons (lift-sum side n cs) x w ∙ ap₂ _+ℤ_ (lifted-weight cs h) (lifted-total cs w b) ∙ sym (total-cons cs (half side (n .of-T) x) (halves side n w))
+      total-cons (lift-sum side n cs) x w ∙ ap₂ _+ℤ_ (lifted-weight cs h)
+      (lifted-total cs w b) ∙ sym (total-cons cs (half side (n .of-T) x) (halves side n w))
 
   -- ---- lifted steps, after any number of other steps
 
   module _ (w : List ℕ) (b : AllBelow (of-pairs n) w) (before : List Bool) where
-    lifted-holds : (earlier : List Bool) (s : Step) → holds w (before ++ earlier) (lift-step side n (length before) s) ≡ holds (halves side n w) earlier s
+    lifted-holds : (earlier : List Bool) (s : Step) → holds w (before ++ earlier) (lift-step side n (length before) s) ≡ holds
+        (halves side n w) earlier s
     unfolding holds lift-step
     lifted-holds earlier (at-most cs k) = ap (λ (z : ℤ). leZ z k) (lifted-total cs w b)
     lifted-holds earlier (remainder cs m r) = ap (λ (z : ℤ). eqb (remainder-of z m) r) (lifted-total cs w b)
@@ -133,9 +140,11 @@ module _ (side : Side) (n : Sizes) where
         (ap (λ (t : Bool). (before ++ earlier) ++ (t ∷ [])) (lifted-holds earlier s) ∙ append-assoc before earlier _)
         ∙ lifted-truths (earlier ++ (holds (halves side n w) earlier s ∷ [])) ss
 
-  lifted-fits : (w : List ℕ) → AllBelow (of-pairs n) w → (ss : List Step) → fits-count (some (map (lift-step side n 0) ss)) w ≡ fits-count (some ss) (halves side n w)
+  lifted-fits : (w : List ℕ) → AllBelow (of-pairs n) w → (ss : List Step) → fits-count (some (map (lift-step side n 0) ss)) w ≡ fits-count
+      (some ss) (halves side n w)
   unfolding fits-count
-  lifted-fits w b ss = ap₂ (λ (l : List Bool) (k : ℕ). getD l (k - 1) false) (lifted-truths w b [] [] ss) (length-map ss (lift-step side n 0))
+  lifted-fits w b ss = ap₂ (λ (l : List Bool) (k : ℕ). getD l (k - 1) false) (lifted-truths w b [] [] ss)
+      (length-map ss (lift-step side n 0))
 
 -- ---- steps one after another
 
@@ -147,20 +156,23 @@ truths-append w earlier (s ∷ ss) ts = truths-append w (earlier ++ (holds w ear
 length-truths : (w : List ℕ) (earlier : List Bool) (ss : List Step) → length (truths w earlier ss) ≡ length earlier + length ss
 unfolding truths
 length-truths w earlier [] = omega arith
-length-truths w earlier (s ∷ ss) = omega (arith, length-truths w (earlier ++ (holds w earlier s ∷ [])) ss, length-append earlier (holds w earlier s ∷ []))
+length-truths w earlier (s ∷ ss) =
+    omega (arith, length-truths w (earlier ++ (holds w earlier s ∷ [])) ss, length-append earlier (holds w earlier s ∷ []))
 
 -- the last step decides
 last-fits : (w : List ℕ) (ss : List Step) (s : Step) → fits-count (some (ss ++ (s ∷ []))) w ≡ holds w (truths w [] ss) s
 unfolding fits-count truths
 last-fits w ss s =
     let e : length (ss ++ (s ∷ [])) - 1 ≡ length (truths w [] ss) = omega (arith, length-append ss (s ∷ []), length-truths w [] ss) in
-    ap₂ (λ (l : List Bool) (k : ℕ). getD l k false) (truths-append w [] ss (s ∷ [])) e ∙ getD-append-seam (truths w [] ss) (holds w (truths w [] ss) s) [] false
+    ap₂ (λ (l : List Bool) (k : ℕ). getD l k false) (truths-append w [] ss (s ∷ [])) e ∙ getD-append-seam (truths w [] ss)
+    (holds w (truths w [] ss) s) [] false
 
 -- ---- joint count parts
 
 module _ (n : Sizes) (w : List ℕ) (b : AllBelow (of-pairs n) w) where
   both-truths : (ss ts : List Step)
-      → truths w [] (map (lift-step S n 0) ss ++ map (lift-step T n (length ss)) ts) ≡ truths (halves S n w) [] ss ++ truths (halves T n w) [] ts
+      → truths w [] (map (lift-step S n 0) ss ++ map (lift-step T n (length ss)) ts) ≡ truths (halves S n w) [] ss ++ truths
+      (halves T n w) [] ts
   both-truths ss ts =
       let front : List Bool = truths (halves S n w) [] ss in
       let e : length ss ≡ length front = omega (arith, length-truths (halves S n w) [] ss) in
@@ -176,7 +188,8 @@ module _ (n : Sizes) (w : List ℕ) (b : AllBelow (of-pairs n) w) where
       let rest : List Bool = truths (halves T n w) [] ts in
       let e : length front ≡ length ss = omega (arith, length-truths (halves S n w) [] ss) in
       let final : Step = and-step (length ss - 1) (length ss + (length ts - 1)) in
-      ap (λ (l : List Step). fits-count (some l) w) (sym (append-assoc (map (lift-step S n 0) ss) (map (lift-step T n (length ss)) ts) (final ∷ [])))
+      ap (λ (l : List Step). fits-count (some l) w)
+      (sym (append-assoc (map (lift-step S n 0) ss) (map (lift-step T n (length ss)) ts) (final ∷ [])))
       ∙ last-fits w (map (lift-step S n 0) ss ++ map (lift-step T n (length ss)) ts) final
       ∙ ap (λ (l : List Bool). holds w l final) (both-truths ss ts)
       ∙ ap₂ _&&_ (List·getD-append front rest false (length ss - 1) (omega arith))

@@ -7,10 +7,12 @@ use Prim.Native.Nat.{ℕ, _<_}
 use Rattle.model.specs.Lists.{_∈_, numbers, grid}
 use Rattle.model.specs.Sheet.{Arc, Order, OrderInRange, IfAny}
 use Rattle.model.specs.Words.{Path-of, InLanguage}
-use Rattle.model.specs.Compose.{pair, Side, S, T, half, beside, Sizes, of-other, lift-arc, lift-order, pair-arc, pair-order, joint-order}
+use Rattle.model.specs.Compose.{pair, Side, S, T, half, beside, Sizes, of-other, lift-arc, lift-order, pair-arc, pair-order}
+use Rattle.model.specs.Compose.{joint-order}
 use Rattle.model.proofs.ListLaws.{∈-grid, grid-∈, ∈-numbers, numbers-<}
 use Rattle.model.specs.Compose.{of-side, of-pairs}
-use Rattle.model.proofs.Pairs.{either, on-both, half-pair, pair-halves, same-halves, half-zero, ∈-pairs, half-beside, beside-half, AllBelow, halves}
+use Rattle.model.proofs.Pairs.{either, on-both, half-pair, pair-halves, same-halves, half-zero, ∈-pairs, half-beside, beside-half}
+use Rattle.model.proofs.Pairs.{AllBelow, halves}
 
 -- an arc leaves position i and reads state q, and a path leads on from it
 abbrev Begins : List Arc → ℕ → ℕ → List ℕ → ℕ → Arc → Type 0
@@ -29,10 +31,16 @@ module _ (n : Sizes) where
     lift-path : (w : List ℕ) → AllBelow (of-pairs n) w → (i j : ℕ) → Path-of arcs i (halves side n w) j → Path-of lifted i w j
     lift-path [] b i j e = e
     lift-path (x ∷ w) (h, b) i j (a, m, l, r, path) =
-        let (other, k, e) = beside-half side n h in
-        (lift-arc side n a other, ∈-grid (lift-arc side n) m (∈-numbers _ k), l, ap (λ (q : ℕ). beside side p q other) r ∙ e, lift-path w b (a .enters) j path)
+        let (other, k, e) = beside-half side n h in (
+          lift-arc side n a other,
+          ∈-grid (lift-arc side n) m (∈-numbers _ k),
+          l,
+          ap (λ (q : ℕ). beside side p q other) r ∙ e,
+          lift-path w b (a .enters) j path,
+        )
 
-    path-lift : ((a : Arc) → a ∈ arcs → a .reads < of-side side n) → (w : List ℕ) (i j : ℕ) → Path-of lifted i w j → Path-of arcs i (halves side n w) j
+    path-lift : ((a : Arc) → a ∈ arcs → a .reads < of-side side n) → (w : List ℕ) (i j : ℕ) → Path-of lifted i w j → Path-of arcs i
+        (halves side n w) j
     path-lift ok [] i j e = e
     path-lift ok (x ∷ w) i j (c, m, l, r, path) =
         let (a, other, ma, mo, e) = grid-∈ (lift-arc side n) arcs (numbers (of-other side n)) m in
@@ -81,10 +89,12 @@ module _ (n : Sizes) where
           on-both (λ z. either a b z ∈ o z .arcs) ma mb side,
           sym (half-pair side (λ z. either a b z .leaves) (range .leaves)) ∙ ap (half side m) l′,
           sym (half-pair side (λ z. either a b z .reads) (range .reads)) ∙ ap (half side p) r′,
-          subst (λ (k : ℕ). HalfPath side k w (half side m j)) (half-pair side (λ z. either a b z .enters) (range .enters)) (path-pair side w _ j path′),
+          subst (λ (k : ℕ). HalfPath side k w (half side m j)) (half-pair side (λ z. either a b z .enters) (range .enters))
+              (path-pair side w _ j path′),
         )
 
-    paired-language : (w : List ℕ) → InLanguage (some (pair-order n (o S) (o T))) w ↔ ((side : Side) → InLanguage (some (o side)) (halves side n w))
+    paired-language : (w : List ℕ) → InLanguage (some (pair-order n (o S) (o T))) w ↔
+        ((side : Side) → InLanguage (some (o side)) (halves side n w))
     unfolding pair-order
     paired-language w = (there, back)
       where
@@ -97,13 +107,15 @@ module _ (n : Sizes) where
 
         back : ((side : Side) → InLanguage (some (o side)) (halves side n w)) → InLanguage (some (pair-order n (o S) (o T))) w
         back h =
-            let last : (side : Side) → half side m (pair m (h S .0) (h T .0)) ≡ h side .0 = λ side. half-pair side (λ z. h z .0) (ok .accepting .below _ (h T .2)) in (
+            let last : (side : Side) → half side m (pair m (h S .0) (h T .0)) ≡ h side .0 = λ side. half-pair side (λ z. h z .0)
+            (ok .accepting .below _ (h T .2)) in (
               pair m (h S .0) (h T .0),
               pair-path w 0 _ (λ side. subst₂ (λ (i j : ℕ). HalfPath side i w j) (sym (half-zero side m)) (sym (last side)) (h side .1)),
               ∈-grid (pair m) (h S .2) (h T .2),
             )
 
-  pub joint-language : (o u : Option Order) → IfAny (OrderInRange (n .of-S)) o → IfAny (OrderInRange (n .of-T)) u → (w : List ℕ) → AllBelow (of-pairs n) w
+  pub joint-language : (o u : Option Order) → IfAny (OrderInRange (n .of-S)) o → IfAny (OrderInRange (n .of-T)) u → (w : List ℕ) → AllBelow
+      (of-pairs n) w
       → InLanguage (joint-order n o u) w ↔ (InLanguage o (halves S n w) × InLanguage u (halves T n w))
   unfolding joint-order
   joint-language none none ok ok′ w b = (λ _. (tt, tt), λ _. tt)

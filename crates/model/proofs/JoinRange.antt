@@ -14,10 +14,15 @@ use lib.ListN.{length, length-append, length-map}
 use borrow.Author.Tests as tests
 use Rattle.model.specs.Lists.{_∈_, has, every, only, numbers, grid, Ascending, SetBelow}
 use Rattle.model.specs.Answers.{passes}
-use Rattle.model.specs.Sheet.{Sheet, Rule, one, two, three, Order, Coefficient, Step, at-most, remainder, not-step, and-step, or-step, marks, sheet-words, small, ArcInRange, OrderInRange, SumInRange, StepInRange, StepsInRange, CountInRange, IfAny, RuleInRange, InRange}
-use Rattle.model.specs.Compose.{pair, Side, S, T, half, Sizes, of-other, lift-arc, lift-order, pair-arc, pair-order, joint-order, coefficient-of, lift-sum, lift-step, joint-count, pair-rule, joint-rules, sizes, joint, positions-of, arcs-of, steps-of, within-limits}
+use Rattle.model.specs.Sheet.{Sheet, Rule, one, two, three, Order, Coefficient, Step, at-most, remainder, not-step, and-step, or-step}
+use Rattle.model.specs.Sheet.{marks, sheet-words, small, ArcInRange, OrderInRange, SumInRange, StepInRange, StepsInRange}
+use Rattle.model.specs.Sheet.{CountInRange, IfAny, RuleInRange, InRange}
+use Rattle.model.specs.Compose.{pair, Side, S, T, half, Sizes, of-other, lift-arc, lift-order, pair-arc, pair-order, joint-order}
+use Rattle.model.specs.Compose.{coefficient-of, lift-sum, lift-step, joint-count, pair-rule, joint-rules, sizes, joint, positions-of}
+use Rattle.model.specs.Compose.{arcs-of, steps-of, within-limits}
 use Rattle.model.proofs.Tests.{Yes, never, same, eqb-like}
-use Rattle.model.proofs.ListLaws.{every-∈, ∈-every, only-eq, each-∈, length-each, map-append, numbers-<, grid-∈, asc-filter, asc-grid, has-no, map-each, length-only}
+use Rattle.model.proofs.ListLaws.{every-∈, ∈-every, only-eq, each-∈, length-each, map-append, numbers-<, grid-∈, asc-filter}
+use Rattle.model.proofs.ListLaws.{asc-grid, has-no, map-each, length-only}
 use Rattle.model.proofs.CheckLaws.{require-is, required}
 use Rattle.model.specs.Compose.{of-side, of-pairs}
 use Rattle.model.proofs.Pairs.{either, on-both, beside-below}
@@ -36,8 +41,10 @@ pub record Limits (j : Sheet) : Type 0 where
 
 -- a test of every rule
 all-at-most : (f : Rule → ℕ) (k : ℕ) (l : List Rule) → Yes (every (λ r. leb (f r) k) l) ↔ ((r : Rule) → r ∈ l → f r ≤ k)
-all-at-most f k l =
-    (λ h r m. tests.leb-true (f r) k (every-∈ (λ r. leb (f r) k) h r m), λ h. ∈-every (λ r. leb (f r) k) l (λ r m. tests.le-leb (f r) k (h r m)))
+all-at-most f k l = (
+  λ h r m. tests.leb-true (f r) k (every-∈ (λ r. leb (f r) k) h r m),
+  λ h. ∈-every (λ r. leb (f r) k) l (λ r m. tests.le-leb (f r) k (h r m)),
+)
 
 pub limits-inv : (j : Sheet) → (within-limits j ≡ passes tt) ↔ Limits j
 unfolding within-limits
@@ -72,13 +79,15 @@ limits-inv j = (there, back)
 set-of-pairs : {a b : ℕ} {l m : List ℕ} → SetBelow a l → SetBelow b m → SetBelow (a * b) (grid (pair b) l m)
 set-of-pairs {a} {b} {l} {m} h k = record {
   ascends = asc-grid b l m (h .ascends) (k .ascends) (k .below);
-  below = λ x i. let (q, r, j, g, e) = grid-∈ (pair b) l m i in subst (λ (y : ℕ). y < a * b) (sym e) (digits-lt (h .below q j) (k .below r g));
+  below = λ x i. let (q, r, j, g, e) = grid-∈ (pair b) l m i in subst (λ (y : ℕ). y < a * b) (sym e)
+      (digits-lt (h .below q j) (k .below r g));
 }
 
 -- ---- count parts
 
 -- the marks of a pair's coefficients: the pair, if its half is marked
-only-marks : (b h : Bool) (x : ℕ) (z : ℤ) → (Yes b → h ≡ false) → marks (only b (record { state = x; times = z })) ++ only h x ≡ only (b || h) x
+only-marks : (b h : Bool) (x : ℕ) (z : ℤ) → (Yes b → h ≡ false) → marks (only b (record { state = x; times = z })) ++ only h x ≡ only
+    (b || h) x
 unfolding only
 only-marks true true x z apart = never (sym (apart refl))
 only-marks true false x z apart = refl
@@ -91,7 +100,8 @@ coefficient-marks (c ∷ cs) q x (a, al) =
     let first : List Coefficient = only (eqb (c .state) q) (record { state = x; times = c .times }) in
     map-append (λ (d : Coefficient). d .state) first (coefficient-of cs q x)
     ∙ ap (λ (l : List ℕ). marks first ++ l) (coefficient-marks cs q x al)
-    ∙ only-marks (eqb (c .state) q) (has (marks cs) q) x (c .times) (λ e. has-no (λ m. let h = a q m in let i = same (c .state) q e in omega arith))
+    ∙ only-marks (eqb (c .state) q) (has (marks cs) q) x (c .times)
+    (λ e. has-no (λ m. let h = a q m in let i = same (c .state) q e in omega arith))
     ∙ ap (λ (b : Bool). only (b || has (marks cs) q) x) (eqb-like (c .state) q q (c .state) sym sym)
 
 module _ (side : Side) (n : Sizes) where
@@ -106,15 +116,18 @@ module _ (side : Side) (n : Sizes) where
   sum-in-range : (cs : List Coefficient) → SumInRange (of-side side n) cs → SumInRange (of-pairs n) (lift-sum side n cs)
   unfolding lift-sum coefficient-of
   sum-in-range cs ok = record {
-    marked = subst (SetBelow (of-pairs n)) (sym (lifted-marks cs (ok .marked .ascends))) (asc-filter (λ x. has (marks cs) (half side (n .of-T) x)) (of-pairs n));
+    marked = subst (SetBelow (of-pairs n)) (sym (lifted-marks cs (ok .marked .ascends)))
+        (asc-filter (λ x. has (marks cs) (half side (n .of-T) x)) (of-pairs n));
     coefficients = λ c m.
         let (x, _, k) = each-∈ (λ x. coefficient-of cs (half side (n .of-T) x) x) (numbers (of-pairs n)) m in
         let (d, l, h) = each-∈ (λ c. only (eqb (c .state) (half side (n .of-T) x)) (record { state = x; times = c .times })) cs k in
-        subst (λ (c : Coefficient). Yes (small (c .times))) (sym (only-eq (eqb (d .state) (half side (n .of-T) x)) _ h)) (ok .coefficients d l);
+        subst (λ (c : Coefficient). Yes (small (c .times))) (sym (only-eq (eqb (d .state) (half side (n .of-T) x)) _ h))
+        (ok .coefficients d l);
   }
 
   -- lifted steps, after any number of other steps
-  step-in-range : (shift i : ℕ) (s : Step) → StepInRange (of-side side n) i s → StepInRange (of-pairs n) (shift + i) (lift-step side n shift s)
+  step-in-range : (shift i : ℕ) (s : Step) → StepInRange (of-side side n) i s → StepInRange (of-pairs n) (shift + i)
+      (lift-step side n shift s)
   unfolding lift-step
   step-in-range shift i (at-most cs b) (h, k) = (sum-in-range cs h, k)
   step-in-range shift i (remainder cs m r) (h, k, l, j) = (sum-in-range cs h, k, l, j)
@@ -122,10 +135,13 @@ module _ (side : Side) (n : Sizes) where
   step-in-range shift i (and-step j k) (h, g) = (omega arith, omega arith)
   step-in-range shift i (or-step j k) (h, g) = (omega arith, omega arith)
 
-  steps-in-range : (shift i k : ℕ) (ss : List Step) → shift + i ≡ k → StepsInRange (of-side side n) i ss → StepsInRange (of-pairs n) k (map (lift-step side n shift) ss)
+  steps-in-range : (shift i k : ℕ) (ss : List Step) → shift + i ≡ k → StepsInRange (of-side side n) i ss → StepsInRange (of-pairs n) k
+      (map (lift-step side n shift) ss)
   steps-in-range shift i k [] e h = tt
-  steps-in-range shift i k (s ∷ ss) e (h, hs) =
-      (subst (λ (x : ℕ). StepInRange (of-pairs n) x (lift-step side n shift s)) e (step-in-range shift i s h), steps-in-range shift (suc i) (suc k) ss (omega arith) hs)
+  steps-in-range shift i k (s ∷ ss) e (h, hs) = (
+    subst (λ (x : ℕ). StepInRange (of-pairs n) x (lift-step side n shift s)) e (step-in-range shift i s h),
+    steps-in-range shift (suc i) (suc k) ss (omega arith) hs,
+  )
 
   lifted-count-in-range : (ss : List Step) → CountInRange (of-side side n) ss → CountInRange (of-pairs n) (map (lift-step side n 0) ss)
   lifted-count-in-range ss ok = record {
@@ -134,7 +150,8 @@ module _ (side : Side) (n : Sizes) where
     steps = steps-in-range 0 0 0 ss (omega arith) (ok .steps);
   }
 
-append-in-range : (p i k : ℕ) (ss ts : List Step) → i + length ss ≡ k → StepsInRange p i ss → StepsInRange p k ts → StepsInRange p i (ss ++ ts)
+append-in-range : (p i k : ℕ) (ss ts : List Step) → i + length ss ≡ k → StepsInRange p i ss → StepsInRange p k ts → StepsInRange p i
+    (ss ++ ts)
 append-in-range p i k [] ts e h g = let d : k ≡ i = omega arith in subst (λ (x : ℕ). StepsInRange p x ts) d g
 append-in-range p i k (s ∷ ss) ts e (h, hs) g = (h, append-in-range p (suc i) k ss ts (omega arith) hs g)
 
@@ -157,7 +174,8 @@ module _ (n : Sizes) where
         some-steps = omega (arith, length-append front (middle ++ (last ∷ [])));
         few-steps = few;
         steps =
-            append-in-range (of-pairs n) 0 (length ss) front (middle ++ (last ∷ [])) (omega arith) (steps-in-range S n 0 0 0 ss (omega arith) (h .steps))
+            append-in-range (of-pairs n) 0 (length ss) front (middle ++ (last ∷ [])) (omega arith)
+            (steps-in-range S n 0 0 0 ss (omega arith) (h .steps))
             (append-in-range (of-pairs n) (length ss) (length ss + length ts) middle (last ∷ []) (omega arith)
             (steps-in-range T n (length ss) 0 (length ss) ts (omega arith) (k .steps)) ((omega arith, omega arith), tt));
       }
@@ -192,11 +210,18 @@ module _ (n : Sizes) where
         let h = ok .arcs a k in
         let g = ok′ .arcs b l in
         subst (ArcInRange (of-pairs n) (o .positions * u .positions)) (sym e)
-        (record { leaves = digits-lt (h .leaves) (g .leaves); reads = digits-lt (h .reads) (g .reads); enters = digits-lt (h .enters) (g .enters) });
+        (record {
+          leaves = digits-lt (h .leaves) (g .leaves);
+          reads = digits-lt (h .reads) (g .reads);
+          enters = digits-lt (h .enters)
+              (g .enters);
+        });
   }
 
-  order-in-range : (o u : Option Order) → IfAny (OrderInRange (n .of-S)) o → IfAny (OrderInRange (n .of-T)) u → (φ : Option (List Step)) (q : ℕ)
-      → positions-of (three (joint-order n o u) φ q) ≤ 64 → arcs-of (three (joint-order n o u) φ q) ≤ 1024 → IfAny (OrderInRange (of-pairs n)) (joint-order n o u)
+  order-in-range : (o u : Option Order) → IfAny (OrderInRange (n .of-S)) o → IfAny (OrderInRange (n .of-T)) u → (φ : Option (List Step))
+      (q : ℕ)
+      → positions-of (three (joint-order n o u) φ q) ≤ 64 → arcs-of (three (joint-order n o u) φ q) ≤ 1024 → IfAny
+      (OrderInRange (of-pairs n)) (joint-order n o u)
   unfolding joint-order positions-of arcs-of
   order-in-range none none h k φ q few few′ = tt
   order-in-range (some o) none h k φ q few few′ = lifted-order-in-range S o h few′
@@ -205,7 +230,8 @@ module _ (n : Sizes) where
 
   -- ---- rules
 
-  rule-in-range : {r : Side → Rule} {z : Rule} → Paired n r z → (g : Side → ℕ) → ((side : Side) → RuleInRange (of-side side n) (g side) (r side))
+  rule-in-range : {r : Side → Rule} {z : Rule} → Paired n r z → (g : Side → ℕ) →
+      ((side : Side) → RuleInRange (of-side side n) (g side) (r side))
       → positions-of z ≤ 64 → arcs-of z ≤ 1024 → steps-of z ≤ 32 → RuleInRange (of-pairs n) (g S) z
   rule-in-range ones g h a b c = let (k, l, q) = h S in let (_, _, r) = h T in (k, l, digits-lt q r)
   rule-in-range twos g h a b c = let (k, l, i, q) = h S in let (_, _, j, r) = h T in (k, l, digits-lt i j, digits-lt q r)
@@ -229,7 +255,8 @@ joint-in-range s t s-ok t-ok within =
       few-rules = l .rules;
       rules = λ z m.
           let (r, k, x) = joint-∈ (sizes s t) (λ side. either s t side .rules) m in
-          let ranges = on-both (λ side. RuleInRange (of-side side (sizes s t)) (either s t side .tags) (r side)) (s-ok .rules (r S) (k S)) (t-ok .rules (r T) (k T)) in
+          let ranges = on-both (λ side. RuleInRange (of-side side (sizes s t)) (either s t side .tags) (r side)) (s-ok .rules (r S) (k S))
+          (t-ok .rules (r T) (k T)) in
           rule-in-range (sizes s t) x (λ side. either s t side .tags) ranges (l .positions z m) (l .arcs z m) (l .steps z m);
       few-words = l .words;
     }
@@ -252,5 +279,6 @@ pub joint-rule-count : (s t : Sheet) → length (joint s t .rules) ≤ length (s
 unfolding joint joint-rules
 joint-rule-count s t =
     let pairs-with : Rule → List Rule = λ r. flatMap (pair-rule (sizes s t) r) (t .rules) in
-    let few : (r : Rule) → length (pairs-with r) ≤ 1 * length (t .rules) = λ r. length-each (pair-rule (sizes s t) r) 1 (pair-rule-count (sizes s t) r) (t .rules) in
+    let few : (r : Rule) → length (pairs-with r) ≤ 1 * length (t .rules) = λ r. length-each (pair-rule (sizes s t) r) 1
+    (pair-rule-count (sizes s t) r) (t .rules) in
     omega (arith, length-each pairs-with (1 * length (t .rules)) few (s .rules))

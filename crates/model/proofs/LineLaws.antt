@@ -60,7 +60,8 @@ digits-are : (steps n : ℕ) → Digits (digits steps n)
 unfolding digits Digits
 digits-are zero n = tt
 digits-are (suc steps) zero = tt
-digits-are (suc steps) (suc n) = digits-snoc (digits steps (suc n / 10)) (48 + suc n % 10) (digits-are steps (suc n / 10)) (omega arith) (omega arith)
+digits-are (suc steps) (suc n) = digits-snoc (digits steps (suc n / 10)) (48 + suc n % 10) (digits-are steps (suc n / 10)) (omega arith)
+    (omega arith)
 
 digits-of-0 : (steps : ℕ) → digits steps 0 ≡ []
 unfolding digits
@@ -117,7 +118,11 @@ two-numbers f l = f (number 0 l .0) (number 0 (drop 1 (number 0 l .1)) .0)
 two-read : (f : ℕ → ℕ → Said) (a b : ℕ) → two-numbers f ((decimal a ++ (32 ∷ decimal b)) ++ (10 ∷ [])) ≡ f a b
 unfolding two-numbers
 two-read f a b =
-    rw (append-assoc (decimal a) (32 ∷ decimal b) (10 ∷ []), decimal-reads a 32 (decimal b ++ (10 ∷ [])) (omega arith), decimal-reads b 10 [] (omega arith))
+    rw (
+      append-assoc (decimal a) (32 ∷ decimal b) (10 ∷ []),
+      decimal-reads a 32 (decimal b ++ (10 ∷ [])) (omega arith),
+      decimal-reads b 10 [] (omega arith),
+    )
 
 -- what a line says, by its first letter
 pub read-line : List ℕ → Said

@@ -2,7 +2,8 @@
 use mathlib.Core.Path.{_≡_, refl, sym, ap, ap₂, _∙_, subst}
 use mathlib.Core.Logic.{_⊎_, inl, inr, _↔_}
 use mathlib.Core.Bool.{Bool, true, false, _&&_}
-use mathlib.Core.List.{List, [], _∷_, _++_, map, flatMap, append-assoc, List·Memᴰ·head, List·Memᴰ·tail, List·Memᴰ·not-nil, List·Memᴰ·cases-cons, List·Memᴰ·append-cases, List·Memᴰ·eq-of-singleton, Memᴰ·append-left, Memᴰ·append-right}
+use mathlib.Core.List.{List, [], _∷_, _++_, map, flatMap, append-assoc, List·Memᴰ·head, List·Memᴰ·tail, List·Memᴰ·not-nil}
+use mathlib.Core.List.{List·Memᴰ·cases-cons, List·Memᴰ·append-cases, List·Memᴰ·eq-of-singleton, Memᴰ·append-left, Memᴰ·append-right}
 use Prim.Native.Nat.{ℕ, zero, suc, _+_, _*_, _/_, _%_, _≤_, _<_}
 use native.Mathlib.Nat.{mul-le-mul-right}
 use native.Mathlib.Numerals.{add-one}
@@ -13,7 +14,8 @@ use lib.ListN.{length, getD, drop, length-append, drop-of-length-le}
 use lib.Seq.{drop-cons}
 use Rattle.model.specs.Lists.{_∈_, has, every, only, from, numbers, row, grid, Ascending, SetBelow}
 use Rattle.model.specs.Compose.{pair}
-use Rattle.model.proofs.Tests.{Yes, Told, yea, nay, told, never, and-yes, and-left, and-right, or-left, or-right, or-cases, same, eqb-yes}
+use Rattle.model.proofs.Tests.{Yes, Told, yea, nay, told, never, and-yes, and-left, and-right, or-left, or-right, or-cases, same}
+use Rattle.model.proofs.Tests.{eqb-yes}
 
 -- ---- tests over a list
 
@@ -126,7 +128,8 @@ unfolding flatMap
 each-append f [] m = refl
 each-append f (x ∷ xs) m = ap (λ r. f x ++ r) (each-append f xs m) ∙ sym (append-assoc (f x) (flatMap f xs) (flatMap f m))
 
-pub length-each : {A B : Type 0} (f : A → List B) (k : ℕ) → ((a : A) → length (f a) ≤ k) → (l : List A) → length (flatMap f l) ≤ k * length l
+pub length-each : {A B : Type 0} (f : A → List B) (k : ℕ) → ((a : A) → length (f a) ≤ k) → (l : List A) → length
+    (flatMap f l) ≤ k * length l
 unfolding flatMap
 length-each f k h [] = omega arith
 length-each f k h (x ∷ xs) = omega (arith, length-append (f x) (flatMap f xs), h x, length-each f k h xs)
@@ -203,7 +206,8 @@ pub ∈-grid : {A B C : Type 0} (f : A → B → C) {a : A} {b : B} {as′ : Lis
 unfolding grid
 ∈-grid f {a} {bs = bs} m n = ∈-each (row f bs) m (∈-row f a n)
 
-pub grid-∈ : {A B C : Type 0} (f : A → B → C) (as′ : List A) (bs : List B) {c : C} → c ∈ grid f as′ bs → (a : A) × (b : B) × (a ∈ as′) × (b ∈ bs) × (c ≡ f a b)
+pub grid-∈ : {A B C : Type 0} (f : A → B → C) (as′ : List A) (bs : List B) {c : C} → c ∈ grid f as′ bs → (a : A) × (b : B) × (a ∈ as′) ×
+    (b ∈ bs) × (c ≡ f a b)
 unfolding grid row
 grid-∈ f as′ bs m =
     let (a, n, t) = each-∈ (row f bs) as′ m in
@@ -226,7 +230,9 @@ asc-ext [] [] a b f g = refl
 asc-ext [] (y ∷ m) a b f g = absurd (List·Memᴰ·not-nil (g y (List·Memᴰ·head refl)))
 asc-ext (x ∷ l) [] a b f g = absurd (List·Memᴰ·not-nil (f x (List·Memᴰ·head refl)))
 asc-ext (x ∷ l) (y ∷ m) (a, al) (b, bm) f g =
-    ap₂ {C = List ℕ} (λ u v. u ∷ v) e (asc-ext l m al bm (λ z n. there l m x y e a z n (f z (List·Memᴰ·tail n))) (λ z n. there m l y x (sym e) b z n (g z (List·Memᴰ·tail n))))
+    ap₂ {C = List ℕ} (λ u v. u ∷ v) e
+    (asc-ext l m al bm (λ z n. there l m x y e a z n (f z (List·Memᴰ·tail n)))
+    (λ z n. there m l y x (sym e) b z n (g z (List·Memᴰ·tail n))))
   where
     heads : (x ≡ y) ⊎ (x ∈ m) → (y ≡ x) ⊎ (y ∈ l) → x ≡ y
     heads (inl e) k = e
@@ -251,7 +257,8 @@ asc-append (x ∷ l) m (a, al) b f = (λ y n. go y (List·Memᴰ·append-cases l
     go y (inl n) = a y n
     go y (inr n) = f x y (List·Memᴰ·head refl) n
 
-pub asc-each : (f : ℕ → List ℕ) (l : List ℕ) → Ascending l → ((i : ℕ) → Ascending (f i)) → ((i j x y : ℕ) → i ∈ l → j ∈ l → i < j → x ∈ f i → y ∈ f j → x < y) → Ascending (flatMap f l)
+pub asc-each : (f : ℕ → List ℕ) (l : List ℕ) → Ascending l → ((i : ℕ) → Ascending (f i)) →
+    ((i j x y : ℕ) → i ∈ l → j ∈ l → i < j → x ∈ f i → y ∈ f j → x < y) → Ascending (flatMap f l)
 unfolding flatMap
 asc-each f [] a b h = tt
 asc-each f (i ∷ l) (a, al) b h =
@@ -271,15 +278,21 @@ asc-from (suc n) q = (λ y m. let (a, b) = from-∈ n (suc q) m in omega arith, 
 -- those of the numbers below k that pass a test are a set below k
 pub asc-filter : (f : ℕ → Bool) (k : ℕ) → SetBelow k (flatMap (λ i. only (f i) i) (numbers k))
 asc-filter f k = record {
-  ascends = asc-each (λ i. only (f i) i) (numbers k) (asc-from k 0) (λ i. asc-only (f i) i) (λ i j x y _ _ h m l. let e = only-eq (f i) i m in let g = only-eq (f j) j l in omega arith);
-  below = λ q m. let (i, t, u) = each-∈ (λ i. only (f i) i) (numbers k) m in let e = only-eq (f i) i u in let h = numbers-< k t in omega arith;
+  ascends = asc-each (λ i. only (f i) i) (numbers k) (asc-from k 0) (λ i. asc-only (f i) i)
+      (λ i j x y _ _ h m l. let e = only-eq (f i) i m in let g = only-eq (f j) j l in omega arith);
+  below = λ q m. let (i, t, u) = each-∈ (λ i. only (f i) i) (numbers k) m in let e = only-eq
+      (f i) i u in let h = numbers-< k t in omega arith;
 }
 
 -- pairs of two ascending lists ascend
 asc-row : (p s : ℕ) (l : List ℕ) → Ascending l → Ascending (row (pair p) l s)
 unfolding row flatMap
 asc-row p s [] a = tt
-asc-row p s (t ∷ l) (a, al) = (λ y m. let (u, k, n) = each-∈ (λ b. pair p s b ∷ []) l m in let h = a u k in let e = List·Memᴰ·eq-of-singleton n in omega arith, asc-row p s l al)
+asc-row p s (t ∷ l) (a, al) = (
+  λ y m. let (u, k, n) = each-∈
+      (λ b. pair p s b ∷ []) l m in let h = a u k in let e = List·Memᴰ·eq-of-singleton n in omega arith,
+  asc-row p s l al,
+)
 
 pub asc-grid : (p : ℕ) (l m : List ℕ) → Ascending l → Ascending m → ((t : ℕ) → t ∈ m → t < p) → Ascending (grid (pair p) l m)
 unfolding grid row

@@ -23,7 +23,8 @@ kinds (three o c q ∷ R) = omega (arith, kinds R)
 reads-from-≤ : (arcs : List Arc) (set w : List ℕ) → reads-from arcs set w ≤ length w
 unfolding reads-from
 reads-from-≤ arcs set [] = omega arith
-reads-from-≤ arcs set (q ∷ w) = go (next-set arcs set q) (reads-from arcs (next-set arcs set q) w) (reads-from-≤ arcs (next-set arcs set q) w)
+reads-from-≤ arcs set (q ∷ w) = go (next-set arcs set q) (reads-from arcs (next-set arcs set q) w)
+    (reads-from-≤ arcs (next-set arcs set q) w)
   where
     go : (s : List ℕ) (n : ℕ) → n ≤ length w → suc (unless-empty s n) ≤ suc (length w)
     go [] n h = omega arith

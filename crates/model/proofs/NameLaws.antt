@@ -28,7 +28,8 @@ unfolding same-bytes
 bytes-same [] [] h = refl
 bytes-same [] (b ∷ t) h = never h
 bytes-same (a ∷ s) [] h = never h
-bytes-same (a ∷ s) (b ∷ t) h = ap₂ _∷_ (same a b (and-left (eqb a b) (same-bytes s t) h)) (bytes-same s t (and-right (eqb a b) (same-bytes s t) h))
+bytes-same (a ∷ s) (b ∷ t) h = ap₂ _∷_ (same a b (and-left (eqb a b) (same-bytes s t) h))
+    (bytes-same s t (and-right (eqb a b) (same-bytes s t) h))
 
 -- ---- lines
 
@@ -37,7 +38,8 @@ abbrev AllGood : List (List ℕ) → ℕ → List (List ℕ) → Type 0
 AllGood all k [] = Unit {0}
 AllGood all k (l ∷ ls) = Yes (good-line all k l) × AllGood all (suc k) ls
 
-check-lines : (all : List (List ℕ)) (k offset : ℕ) (ls : List (List ℕ)) (g : ℕ) → lines-checked all k offset ls ≡ passes g → (g ≡ k + length ls) × AllGood all k ls
+check-lines : (all : List (List ℕ)) (k offset : ℕ) (ls : List (List ℕ)) (g : ℕ) → lines-checked all k offset ls ≡ passes g →
+    (g ≡ k + length ls) × AllGood all k ls
 unfolding lines-checked
 check-lines all k offset [] g e = (sym (passes-inj e) ∙ sym (add-zero k), tt)
 check-lines all k offset (l ∷ ls) g e = by (good-line all k l) refl e (check-lines all (suc k) (offset + length l) ls g)
@@ -48,7 +50,8 @@ check-lines all k offset (l ∷ ls) g e = by (good-line all k l) refl e (check-l
     by true h e ih = (ih e .0 ∙ omega arith, (h, ih e .1))
     by false h e ih = absurd (refuses≢passes e)
 
-good-at : (all : List (List ℕ)) (k : ℕ) (ls : List (List ℕ)) → AllGood all k ls → (j : ℕ) → j < length ls → Yes (good-line all (k + j) (getD ls j []))
+good-at : (all : List (List ℕ)) (k : ℕ) (ls : List (List ℕ)) → AllGood all k ls → (j : ℕ) → j < length ls → Yes
+    (good-line all (k + j) (getD ls j []))
 good-at all k [] h j i = absurd (omega arith)
 good-at all k (l ∷ ls) h zero i = rw add-zero (h .0)
 good-at all k (l ∷ ls) h (suc j) i =
@@ -58,18 +61,21 @@ good-at all k (l ∷ ls) h (suc j) i =
 -- ---- numbers of names
 
 -- the first line that holds the name
-first-at : (k : ℕ) (name : List ℕ) (xs : List (List ℕ)) (l : List ℕ) (ys : List (List ℕ)) → number-from k name xs ≡ 0 → bare l ≡ name → number-from k name (xs ++ (l ∷ ys)) ≡ suc (k + length xs)
+first-at : (k : ℕ) (name : List ℕ) (xs : List (List ℕ)) (l : List ℕ)
+    (ys : List (List ℕ)) → number-from k name xs ≡ 0 → bare l ≡ name → number-from k name (xs ++ (l ∷ ys)) ≡ suc (k + length xs)
 unfolding number-from
 first-at k name [] l ys z e = rw (e, same-bytes-refl name, add-zero)
 first-at k name (x ∷ xs) l ys z e = by (same-bytes (bare x) name) z (λ q. first-at (suc k) name xs l ys q e)
   where
-    by : (b : Bool) → cond b (suc k) (number-from (suc k) name xs) ≡ 0 → (number-from (suc k) name xs ≡ 0 → number-from (suc k) name (xs ++ (l ∷ ys)) ≡ suc (suc k + length xs))
+    by : (b : Bool) → cond b (suc k) (number-from (suc k) name xs) ≡ 0 →
+        (number-from (suc k) name xs ≡ 0 → number-from (suc k) name (xs ++ (l ∷ ys)) ≡ suc (suc k + length xs))
         → cond b (suc k) (number-from (suc k) name (xs ++ (l ∷ ys))) ≡ suc (k + suc (length xs))
     by true z ih = absurd (omega arith)
     by false z ih = ih z ∙ omega arith
 
 -- a number that is not 0 is that of a line with the name
-pub number-at : (k : ℕ) (name : List ℕ) (ls : List (List ℕ)) → number-from k name ls ≢ 0 → (j : ℕ) × (j < length ls) × (number-from k name ls ≡ suc (k + j)) × (bare (getD ls j []) ≡ name)
+pub number-at : (k : ℕ) (name : List ℕ) (ls : List (List ℕ)) → number-from k name ls ≢ 0 → (j : ℕ) × (j < length ls) ×
+    (number-from k name ls ≡ suc (k + j)) × (bare (getD ls j []) ≡ name)
 unfolding number-from
 number-at k name [] h = absurd (h refl)
 number-at k name (l ∷ ls) h = by (same-bytes (bare l) name) refl h (number-at (suc k) name ls)
@@ -78,7 +84,8 @@ number-at k name (l ∷ ls) h = by (same-bytes (bare l) name) refl h (number-at 
     Found n = (j : ℕ) × (j < suc (length ls)) × (n ≡ suc (k + j)) × (bare (getD (l ∷ ls) j []) ≡ name)
 
     by : (b : Bool) → same-bytes (bare l) name ≡ b → cond b (suc k) (number-from (suc k) name ls) ≢ 0
-        → (number-from (suc k) name ls ≢ 0 → (j : ℕ) × (j < length ls) × (number-from (suc k) name ls ≡ suc (suc k + j)) × (bare (getD ls j []) ≡ name)) → Found (cond b (suc k) (number-from (suc k) name ls))
+        → (number-from (suc k) name ls ≢ 0 → (j : ℕ) × (j < length ls) × (number-from (suc k) name ls ≡ suc (suc k + j)) ×
+        (bare (getD ls j []) ≡ name)) → Found (cond b (suc k) (number-from (suc k) name ls))
     by true e h ih = (0, omega arith, omega arith, bytes-same (bare l) name e)
     by false e h ih = let (j, i, n, m) = ih h in (suc j, omega arith, n ∙ omega arith, m)
 
@@ -139,7 +146,8 @@ module _ (list : List ℕ) (g : ℕ) (checked : names-of list ≡ passes g) wher
   lines-counted = omega (arith, facts .0)
 
   line-at : (j : ℕ) → j < g → GoodLine (lines list) j (getD (lines list) j [])
-  line-at j h = good-line-is (lines list) j (getD (lines list) j []) (rw zero-add at (good-at (lines list) 0 (lines list) (facts .1) j (omega (arith, facts .0))))
+  line-at j h = good-line-is (lines list) j (getD (lines list) j [])
+      (rw zero-add at (good-at (lines list) 0 (lines list) (facts .1) j (omega (arith, facts .0))))
 
   -- 1 to 64 names
   pub some-names : 1 ≤ g
@@ -164,7 +172,8 @@ module _ (list : List ℕ) (g : ℕ) (checked : names-of list ≡ passes g) wher
         let inside : a - 1 < length (lines list) = omega (arith, facts .0) in
         let n : length (take (a - 1) (lines list)) ≡ a - 1 = length-take-le (a - 1) (lines list) (omega arith) in
         ap (number-from 0 (bare (getD (lines list) (a - 1) []))) (split-at (lines list) (a - 1) [] inside)
-        ∙ first-at 0 _ (take (a - 1) (lines list)) (getD (lines list) (a - 1) []) (drop (suc (a - 1)) (lines list)) (line-at (a - 1) (omega arith) .new) refl
+        ∙ first-at 0 _ (take (a - 1) (lines list)) (getD (lines list) (a - 1) []) (drop (suc (a - 1)) (lines list))
+        (line-at (a - 1) (omega arith) .new) refl
         ∙ omega arith
 
   -- a listed name is the name of its tag, which is 1 to g

@@ -2,7 +2,8 @@
 use mathlib.Core.Path.{_≡_, refl, sym, ap, ap₂, _∙_, subst}
 use mathlib.Core.Logic.{_⊎_, inl, inr, _↔_, _≢_}
 use mathlib.Core.Bool.{Bool, true, false, _&&_}
-use mathlib.Core.List.{List, [], _∷_, flatMap, List·Memᴰ·head, List·Memᴰ·tail, List·Memᴰ·not-nil, List·Memᴰ·cases-cons, List·Memᴰ·eq-of-singleton, Memᴰ·cast, Memᴰ·append-left, Memᴰ·append-right}
+use mathlib.Core.List.{List, [], _∷_, flatMap, List·Memᴰ·head, List·Memᴰ·tail, List·Memᴰ·not-nil, List·Memᴰ·cases-cons}
+use mathlib.Core.List.{List·Memᴰ·eq-of-singleton, Memᴰ·cast, Memᴰ·append-left, Memᴰ·append-right}
 use mathlib.Core.Option.{Option, none, some}
 use Prim.Native.Nat.{ℕ}
 use lib.Dec.{eqb}
@@ -10,8 +11,10 @@ use Rattle.model.specs.Lists.{_∈_, has}
 use Rattle.model.specs.Tree.{Span, Element, text, tag, Document, ε, _·_, nodes, nodesD}
 use Rattle.model.specs.Sheet.{Rule, one, two, three, Order, Step}
 use Rattle.model.specs.Words.{InLanguage, fits-order, fits-count}
-use Rattle.model.specs.Relation.{NotOne, To, type-1, type-2, ToD, lone, type-3, Each, no-more, more, AtMostOne, ReachesTwo, Single, NoState}
-use Rattle.model.specs.Run.{at-text, at-content, at-tag, text-targets, content-targets, element-targets, Reached, nothing, just, several, if-same, and-also, gist}
+use Rattle.model.specs.Relation.{NotOne, To, type-1, type-2, ToD, lone, type-3, Each, no-more, more, AtMostOne, ReachesTwo, Single}
+use Rattle.model.specs.Relation.{NoState}
+use Rattle.model.specs.Run.{at-text, at-content, at-tag, text-targets, content-targets, element-targets, Reached, nothing, just}
+use Rattle.model.specs.Run.{several, if-same, and-also, gist}
 use Rattle.model.proofs.Tests.{Yes, and-yes, and-left, and-right, same, eqb-yes, eqb-no}
 use Rattle.model.proofs.ListLaws.{∈-has, has-∈, ∈-only, only-test, only-eq, ∈-each, each-∈}
 use Rattle.model.proofs.WordLaws.{order-fits}
@@ -84,7 +87,8 @@ module _ {R : List Rule} where
   lone-inv (type-3 n r i t m) = absurd n
 
   pub type-3-inv : {d : Document} {q : ℕ} → NotOne d → ToD R d q
-      → (w : List ℕ) × (o : Option Order) × (c : Option (List Step)) × Each R d w × InLanguage o w × Yes (fits-count c w) × (three o c q ∈ R)
+      → (w : List ℕ) × (o : Option Order) × (c : Option (List Step)) × Each R d w × InLanguage o w × Yes (fits-count c w) ×
+      (three o c q ∈ R)
   type-3-inv n (lone h) = absurd n
   type-3-inv n (type-3 {w = w} {o = o} {c = c} k r i t m) = (w, o, c, r, i, t, m)
 
@@ -103,8 +107,10 @@ module _ {R : List Rule} where
 
   pub text-reaches : {k : ℕ} {w : Span} (q : ℕ) → (q ∈ text-targets R k) ↔ To R (text k w) q
   unfolding text-targets at-text
-  text-reaches {k} {w} q =
-      (λ m. let (r, n, t) = each-∈ (at-text k) R m in go r n t, λ h. ∈-each (at-text k) (text-inv h) (∈-only (eqb k k) q (eqb-yes {m = k} refl)))
+  text-reaches {k} {w} q = (
+    λ m. let (r, n, t) = each-∈ (at-text k) R m in go r n t,
+    λ h. ∈-each (at-text k) (text-inv h) (∈-only (eqb k k) q (eqb-yes {m = k} refl)),
+  )
     where
       go : (r : Rule) → r ∈ R → q ∈ at-text k r → To R (text k w) q
       go (one j p) n t = type-1 (Memᴰ·cast (ap₂ one (sym (same j k (only-test (eqb j k) p t))) (only-eq (eqb j k) p t)) n)
@@ -154,16 +160,19 @@ module _ {R : List Rule} where
       go (one j p) n t = absurd (List·Memᴰ·not-nil t)
       go (two b c p) n t =
           let y : Yes (eqb b a && has (content-targets R v) c) = only-test _ p t in
-          type-2 (content-∈ d e (has-∈ _ (and-right (eqb b a) _ y))) (Memᴰ·cast (ap₂ (λ x z. two x c z) (sym (same b a (and-left _ _ y))) (only-eq _ p t)) n)
+          type-2 (content-∈ d e (has-∈ _ (and-right (eqb b a) _ y)))
+          (Memᴰ·cast (ap₂ (λ x z. two x c z) (sym (same b a (and-left _ _ y))) (only-eq _ p t)) n)
       go (three o c p) n t = absurd (List·Memᴰ·not-nil t)
 
-  ∈-element : {a q : ℕ} {w : Span} {d : Document} {v : List ℕ} → Single R (nodesD d) → Each R d v → To R (tag a w d) q → q ∈ element-targets R a (some v)
+  ∈-element : {a q : ℕ} {w : Span} {d : Document} {v : List ℕ} → Single R (nodesD d) → Each R d v → To R
+      (tag a w d) q → q ∈ element-targets R a (some v)
   unfolding element-targets at-tag
   ∈-element {a} {q} {d = d} {v = v} s r h =
       let (c, k, m) = tag-inv h in
       let (u, t, n) = ∈-content d k in
       let i : c ∈ content-targets R v = subst (λ l. c ∈ content-targets R l) (each-unique d s t r) n in
-      ∈-each (at-tag a (content-targets R v)) m (∈-only (eqb a a && has (content-targets R v) c) q (and-yes (eqb-yes {m = a} refl) (∈-has i)))
+      ∈-each (at-tag a (content-targets R v)) m
+      (∈-only (eqb a a && has (content-targets R v) c) q (and-yes (eqb-yes {m = a} refl) (∈-has i)))
 
 -- what the child states say of content: a child has no state; or these are the children's
 abbrev pub ContentSays : List Rule → Document → Option (List ℕ) → Type 0
@@ -173,7 +182,8 @@ ContentSays R d (some w) = Each R d w
 pub element-reaches : {R : List Rule} {a : ℕ} {w : Span} {d : Document} (c : Option (List ℕ)) → Single R (nodesD d) → ContentSays R d c
     → (q : ℕ) → (q ∈ element-targets R a c) ↔ To R (tag a w d) q
 unfolding element-targets
-element-reaches {d = d} none s f q = (λ m. absurd (List·Memᴰ·not-nil m), λ h. let (c, k, m) = tag-inv h in let (v, r, n) = ∈-content d k in absurd (f v r))
+element-reaches {d = d} none s f q =
+    (λ m. absurd (List·Memᴰ·not-nil m), λ h. let (c, k, m) = tag-inv h in let (v, r, n) = ∈-content d k in absurd (f v r))
 element-reaches (some v) s r q = (λ m. element-∈ r m, λ h. ∈-element s r h)
 
 -- ---- what the gist of its targets says of a node

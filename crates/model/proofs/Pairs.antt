@@ -36,7 +36,8 @@ half-zero S p = zero-div p
 half-zero T p = zero-mod p
 
 -- a number is among the pairs of two lists exactly if each half is in its side's list
-pub ∈-pairs : (p : ℕ) (l : Side → List ℕ) → ((t : ℕ) → t ∈ l T → t < p) → (x : ℕ) → (x ∈ grid (pair p) (l S) (l T)) ↔ ((side : Side) → half side p x ∈ l side)
+pub ∈-pairs : (p : ℕ) (l : Side → List ℕ) → ((t : ℕ) → t ∈ l T → t < p) → (x : ℕ) → (x ∈ grid (pair p) (l S) (l T)) ↔
+    ((side : Side) → half side p x ∈ l side)
 ∈-pairs p l below x = (there, λ h. Memᴰ·cast (sym (pair-halves p x)) (∈-grid (pair p) (h S) (h T)))
   where
     there : x ∈ grid (pair p) (l S) (l T) → (side : Side) → half side p x ∈ l side
@@ -56,16 +57,19 @@ half-below T n {x} h = mod-lt x (some-of-T (n .of-S) (n .of-T) h)
 
 -- ---- a state of a side beside a state of the other
 
-pub beside-below : (side : Side) (n : Sizes) {q other : ℕ} → q < of-side side n → other < of-other side n → beside side (n .of-T) q other < of-pairs n
+pub beside-below : (side : Side) (n : Sizes) {q other : ℕ} → q < of-side side n → other < of-other side n → beside side
+    (n .of-T) q other < of-pairs n
 beside-below S n h k = digits-lt h k
 beside-below T n h k = digits-lt k h
 
-pub half-beside : (side : Side) (n : Sizes) {q other : ℕ} → q < of-side side n → other < of-other side n → half side (n .of-T) (beside side (n .of-T) q other) ≡ q
+pub half-beside : (side : Side) (n : Sizes) {q other : ℕ} → q < of-side side n → other < of-other side n → half side (n .of-T)
+    (beside side (n .of-T) q other) ≡ q
 half-beside S n {q} h k = pair-left q k
 half-beside T n {other = s} h k = pair-right s h
 
 -- a pair is its half beside some state of the other
-pub beside-half : (side : Side) (n : Sizes) {x : ℕ} → x < of-pairs n → (other : ℕ) × (other < of-other side n) × (beside side (n .of-T) (half side (n .of-T) x) other ≡ x)
+pub beside-half : (side : Side) (n : Sizes) {x : ℕ} → x < of-pairs n → (other : ℕ) × (other < of-other side n) ×
+    (beside side (n .of-T) (half side (n .of-T) x) other ≡ x)
 beside-half S n {x} h = (half T (n .of-T) x, half-below T n h, pair-halves (n .of-T) x)
 beside-half T n {x} h = (half S (n .of-T) x, half-below S n h, pair-halves (n .of-T) x)
 

@@ -34,7 +34,8 @@ module _ {s ws : List ℕ} {a b : ℕ} (w : WordsAt s a b ws) where
   words-from h =
       let k = length ws in
       let e : take b s ≡ take a s ++ take k (drop a s) = ap (λ (n : ℕ). take n s) (w .ends) ∙ take-add a k s in
-      ap (drop a) e ∙ drop-at (take a s) (take k (drop a s)) a (length-take-le a s h) ∙ ap (take k) (w .stands) ∙ take-at ws (drop b s) k refl
+      ap (drop a) e ∙ drop-at (take a s) (take k (drop a s)) a (length-take-le a s h) ∙ ap (take k) (w .stands) ∙ take-at ws
+      (drop b s) k refl
 
 -- ---- parts one after another
 

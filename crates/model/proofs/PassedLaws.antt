@@ -6,7 +6,8 @@ use native.Mathlib.Omega.{arith}
 use lib.ListN.{length, getD}
 use Rattle.model.specs.Lists.{_∈_, has}
 use Rattle.model.specs.Answers.{Checked, passes, refuses}
-use Rattle.model.specs.Sheet.{Sheet, Rule, one, two, three, W, mask, set-words, rule-words, sheet-words, RuleInRange, InRange, sheet-of}
+use Rattle.model.specs.Sheet.{Sheet, Rule, one, two, three, W, mask, set-words, rule-words, sheet-words, RuleInRange, InRange}
+use Rattle.model.specs.Sheet.{sheet-of}
 use Rattle.model.specs.Spans.{WordsAt, RulesAt}
 use Rattle.model.specs.Index.{passed, sheet-in, rules-in, Passes}
 use Rattle.model.proofs.Spans.{whole, word-next, span-left}

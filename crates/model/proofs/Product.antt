@@ -26,9 +26,11 @@ use Rattle.model.proofs.RuleTargets.{target-of, target-in-range, reache
 -- which rules pair up, one of each side, and what they give
 pub data Paired (n : Sizes) : (Side → Rule) → Rule → Type 0 where
   ones : {k : ℕ} {q : Side → ℕ} → Paired n (λ side. one k (q side)) (one k (pair (n .of-T) (q S) (q T)))
-  twos : {a : ℕ} {c q : Side → ℕ} → Paired n (λ side. two a (c side) (q side)) (two a (pair (n .of-T) (c S) (c T)) (pair (n .of-T) (q S) (q T)))
+  twos : {a : ℕ} {c q : Side → ℕ} → Paired n (λ side. two a (c side) (q side))
+      (two a (pair (n .of-T) (c S) (c T)) (pair (n .of-T) (q S) (q T)))
   threes : {o : Side → Option Order} {φ : Side → Option (List Step)} {q : Side → ℕ}
-      → Paired n (λ side. three (o side) (φ side) (q side)) (three (joint-order n (o S) (o T)) (joint-count n (φ S) (φ T)) (pair (n .of-T) (q S) (q T)))
+      → Paired n (λ side. three (o side) (φ side) (q side))
+      (three (joint-order n (o S) (o T)) (joint-count n (φ S) (φ T)) (pair (n .of-T) (q S) (q T)))
 
 ∈-pair-rule : {n : Sizes} {r : Side → Rule} {z : Rule} → Paired n r z → z ∈ pair-rule n (r S) (r T)
 unfolding pair-rule
@@ -59,11 +61,13 @@ module _ (n : Sizes) (R : Side → List Rule) where
   pair-rule-∈ (two a c s) (one j t) m l h = absurd (List·Memᴰ·not-nil h)
   pair-rule-∈ (two a c s) (two b d t) m l h =
       let e : a ≡ b = same a b (only-test (eqb a b) _ h) in
-      from-pair (λ side. two a (either c d side) (either s t side)) m (Memᴰ·cast (ap (λ (i : ℕ). two i d t) e) l) twos (only-eq (eqb a b) _ h)
+      from-pair (λ side. two a (either c d side) (either s t side)) m (Memᴰ·cast (ap (λ (i : ℕ). two i d t) e) l) twos
+      (only-eq (eqb a b) _ h)
   pair-rule-∈ (two a c s) (three u ψ t) m l h = absurd (List·Memᴰ·not-nil h)
   pair-rule-∈ (three o φ s) (one j t) m l h = absurd (List·Memᴰ·not-nil h)
   pair-rule-∈ (three o φ s) (two b d t) m l h = absurd (List·Memᴰ·not-nil h)
-  pair-rule-∈ (three o φ s) (three u ψ t) m l h = from-pair (λ side. three (either o u side) (either φ ψ side) (either s t side)) m l threes (List·Memᴰ·eq-of-singleton h)
+  pair-rule-∈ (three o φ s) (three u ψ t) m l h = from-pair (λ side. three (either o u side) (either φ ψ side) (either s t side)) m l threes
+      (List·Memᴰ·eq-of-singleton h)
 
   ∈-joint : (r : Side → Rule) {z : Rule} → r S ∈ R S → r T ∈ R T → Paired n r z → z ∈ joint-rules n (R S) (R T)
   unfolding joint-rules
@@ -113,7 +117,8 @@ module _ (s t : Sheet) (s-ok : InRange s) (t-ok : InRange t) where
       Memᴰ·cast (ap₂ (two a) (half-pair side c below) (half-pair side q below′)) (m side)
 
   three-half : (side : Side) {d : Document} {o : Option Order} {φ : Option (List Step)} {w : List ℕ} {x : ℕ}
-      → NotOne d → Each J d w → Each (R side) d (halves side n w) → InLanguage o w → Yes (fits-count φ w) → FromPair n R (three o φ x) → ToD (R side) d (half side p x)
+      → NotOne d → Each J d w → Each (R side) d (halves side n w) → InLanguage o w → Yes (fits-count φ w) → FromPair n R (three o φ x) → ToD
+      (R side) d (half side p x)
   three-half side {d} {w = w} not-one each each′ i f (r, m, threes {o = o} {φ = φ} {q = q}) =
       let below : AllBelow (of-pairs n) w = each-below joint-target-below each in
       let (oS, φS, qS) = in-range S _ (m S) in
@@ -171,21 +176,31 @@ module _ (s t : Sheet) (s-ok : InRange s) (t-ok : InRange t) where
     to-pairD (type-3 not-one r i f m) (lone k) = absurd not-one
     to-pairD (type-3 {o = o} {c = φ} not-one r i f m) (type-3 {o = u} {c = ψ} _ v j g l) =
         let (w, e, e′, each) = each-pair r v in
-        three-pair not-one each (subst (InLanguage o) (sym e) i) (subst (InLanguage u) (sym e′) j) (ap (fits-count φ) e ∙ f) (ap (fits-count ψ) e′ ∙ g) m l
+        three-pair not-one each (subst (InLanguage o) (sym e) i) (subst (InLanguage u) (sym e′) j) (ap (fits-count φ) e ∙ f)
+        (ap (fits-count ψ) e′ ∙ g) m l
 
-    each-pair : {d : Document} {v u : List ℕ} → Each (R S) d v → Each (R T) d u → (w : List ℕ) × (halves S n w ≡ v) × (halves T n w ≡ u) × Each J d w
+    each-pair : {d : Document} {v u : List ℕ} → Each (R S) d v → Each (R T) d u → (w : List ℕ) × (halves S n w ≡ v) ×
+        (halves T n w ≡ u) × Each J d w
     each-pair no-more no-more = ([], refl, refl, no-more)
     each-pair (more {q = q} h r) (more {q = q′} k v) =
         let below : q′ < p = reached-below (target-below T) k in
-        let (w, e, e′, each) = each-pair r v in
-        (pair p q q′ ∷ w, ap₂ _∷_ (half-pair S (either q q′) below) e, ap₂ _∷_ (half-pair T (either q q′) below) e′, more (to-pair h k) each)
+        let (w, e, e′, each) = each-pair r v in (
+          pair p q q′ ∷ w,
+          ap₂ _∷_ (half-pair S (either q q′) below) e,
+          ap₂ _∷_ (half-pair T (either q q′) below) e′,
+          more (to-pair h k) each,
+        )
 
   -- ---- Proposition 6
 
   pub joint-to : (e : Element) (x : ℕ)
-      → To (joint s t .rules) e x ↔ ((x < s .states * t .states) × To (s .rules) e (half S (t .states) x) × To (t .rules) e (half T (t .states) x))
+      → To (joint s t .rules) e x ↔ ((x < s .states * t .states) × To (s .rules) e (half S (t .states) x) × To (t .rules) e
+      (half T (t .states) x))
   unfolding joint
-  joint-to e x = (λ h. (reached-below joint-target-below h, to-half S h, to-half T h), λ (_, h, k). subst (To J e) (pair-halves p x) (to-pair h k))
+  joint-to e x = (
+    λ h. (reached-below joint-target-below h, to-half S h, to-half T h),
+    λ (_, h, k). subst (To J e) (pair-halves p x) (to-pair h k),
+  )
 
   -- on a form on which neither sheet gives two outcomes
   module _ (e : Element) (s-single : Single (s .rules) (nodes e)) (t-single : Single (t .rules) (nodes e)) where
@@ -214,5 +229,9 @@ module _ (s t : Sheet) (s-ok : InRange s) (t-ok : InRange t) where
         there : Accepts (joint s t) e → Accepts s e × Accepts t e
         there (x, (_, h), m) =
             let accepts : (side : Side) → Accepts (either s t side) e
-            = λ side. (half side p x, (single side, to-half side h), ∈-pairs p (λ z. either s t z .final) (t-ok .final .below) x .0 m side) in
+            = λ side. (
+              half side p x,
+              (single side, to-half side h),
+              ∈-pairs p (λ z. either s t z .final) (t-ok .final .below) x .0 m side,
+            ) in
             (accepts S, accepts T)

@@ -12,7 +12,8 @@ use Rattle.model.specs.Answers.{Checked, passes, refuses}
 use Rattle.model.specs.Tree.{Element, Document, ε, _·_, size, sizeD, nodes, Over}
 use Rattle.model.specs.Bytes.{class-of}
 use Rattle.model.specs.Names.{names-of}
-use Rattle.model.specs.Text.{Place, before, root-open, blank, in-text, tag-open, start-name, start-gap, start-slash, end-open, end-name, end-gap, after, to, place-number, move-number, does, State, start, number-at, form-of}
+use Rattle.model.specs.Text.{Place, before, root-open, blank, in-text, tag-open, start-name, start-gap, start-slash, end-open}
+use Rattle.model.specs.Text.{end-name, end-gap, after, to, place-number, move-number, does, State, start, number-at, form-of}
 use Rattle.model.specs.Written.{written, writtenD, texts-checked}
 use Rattle.model.proofs.Tests.{Yes, never, same}
 use Rattle.model.proofs.CheckLaws.{refuses≢passes, passes-inj}
@@ -75,14 +76,16 @@ module _ (list s : List ℕ) (g : ℕ) where
 
   module _ (checked : names-of list ≡ passes g) where
     -- from any offset on, byte by byte
-    from-here : (rest : List ℕ) (st : State) (i : ℕ) (d : Document) → Rest s i rest → Sound list s g st i rest → scan list st i rest ≡ passes d → Taken d
+    from-here : (rest : List ℕ) (st : State) (i : ℕ)
+        (d : Document) → Rest s i rest → Sound list s g st i rest → scan list st i rest ≡ passes d → Taken d
     unfolding scan
     from-here [] st i d r x e =
         let (here, taken) = guarded (does (to (st .place)) (to after)) (passes (st .content)) 3 i e in
         subst Taken (passes-inj taken) (at-end st i r (is-after (st .place) here) x)
     from-here (b ∷ t) st i d r x e =
         let (free, next) = guarded (eqb (number-at list st (b ∷ t)) 0) _ (number-at list st (b ∷ t)) i e in
-        let y = keeps-sound list s g (st .content) (st .opened) (st .nodes) i b t checked r (st .place) (class-of b) refl (not-stopped list st b t (same _ 0 free)) x in
+        let y = keeps-sound list s g (st .content) (st .opened) (st .nodes) i b t checked r (st .place) (class-of b) refl
+        (not-stopped list st b t (same _ 0 free)) x in
         from-here t _ (suc i) d (rest-next s i b t r) y next
 
 pub read-good : (list s : List ℕ) (g : ℕ) (d : Document) → names-of list ≡ passes g → form-of list s ≡ passes d

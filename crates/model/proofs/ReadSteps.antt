@@ -10,13 +10,18 @@ use lib.ListN.{length, length-append, getD}
 use Rattle.model.specs.Lists.{every}
 use Rattle.model.specs.Answers.{passes}
 use Rattle.model.specs.Tree.{Element, Document, ε, _·_, size, nodes, is-text, KeepsD}
-use Rattle.model.specs.Bytes.{Class, white, letter, digit, hyphen, less, greater, slash, other, forbidden, class-number, is, class-of, letter-byte, name-byte}
+use Rattle.model.specs.Bytes.{Class, white, letter, digit, hyphen, less, greater, slash, other, forbidden, class-number, is, class-of}
+use Rattle.model.specs.Bytes.{letter-byte, name-byte}
 use Rattle.model.specs.Names.{names-of, tag-of, name-of}
-use Rattle.model.specs.Text.{Place, before, root-open, blank, in-text, tag-open, start-name, start-gap, start-slash, end-open, end-name, end-gap, after, Move, to, opens, begins, names, closes, stops, moves, move, place-number, move-number, does, Open, State, name-at, text-at, behind, text-node, tag-node, outside, closed, moved, refusal-2, refusal-3, refusal-4, innermost, refusal-5, start-tag, refusal-6, refusal-7, number-at}
+use Rattle.model.specs.Text.{Place, before, root-open, blank, in-text, tag-open, start-name, start-gap, start-slash, end-open}
+use Rattle.model.specs.Text.{end-name, end-gap, after, Move, to, opens, begins, names, closes, stops, moves, move, place-number}
+use Rattle.model.specs.Text.{move-number, does, Open, State, name-at, text-at, behind, text-node, tag-node, outside, closed, moved}
+use Rattle.model.specs.Text.{refusal-2, refusal-3, refusal-4, innermost, refusal-5, start-tag, refusal-6, refusal-7, number-at}
 use Rattle.model.specs.Written.{tagged, written, writtenD, text-byte, solid-byte, good-words}
 use Rattle.model.proofs.Tests.{Yes, never, and-yes, or-left, same, eqb-no}
 use Rattle.model.proofs.NameLaws.{tag-some, tag-few, name-of-tag}
-use Rattle.model.proofs.TextLaws.{name-goes-on, name-ends, Rest, text-ends, text-begins, text-shorter, text-bytes, text-trimmed, kind-range, text-source, text-node-good}
+use Rattle.model.proofs.TextLaws.{name-goes-on, name-ends, Rest, text-ends, text-begins, text-shorter, text-bytes, text-trimmed}
+use Rattle.model.proofs.TextLaws.{kind-range, text-source, text-node-good}
 use Rattle.model.proofs.DocumentLaws.{ends-in-text, ends-behind, keeps-behind, size-behind, written-behind, Good, good-behind}
 use Rattle.model.proofs.Zipper.{bytes-read, OpenIn, AllOpen, Room, At, Sound}
 
@@ -79,7 +84,8 @@ unfolding solid-byte
 as-solid-byte b c e = ap solid-class c ∙ e
 
 -- a case for each class
-row : (P : Class → Type 0) → P white → P letter → P digit → P hyphen → P less → P greater → P slash → P other → P forbidden → (k : Class) → P k
+row : (P : Class → Type 0) → P white → P letter → P digit → P hyphen → P less → P greater → P slash → P other → P forbidden →
+    (k : Class) → P k
 row P w l d h lt gt s o f white = w
 row P w l d h lt gt s o f letter = l
 row P w l d h lt gt s o f digit = d
@@ -102,12 +108,18 @@ tagged-empty : (name content : List ℕ) → length (tagged name ε content) ≡
 unfolding tagged
 tagged-empty name content = omega (arith, length-append name (47 ∷ 62 ∷ []))
 
-tagged-most : (name : List ℕ) (d : Document) (content : List ℕ) → length (tagged name d content) ≤ 5 + length name + length name + length content
+tagged-most : (name : List ℕ) (d : Document) (content : List ℕ) → length
+    (tagged name d content) ≤ 5 + length name + length name + length content
 unfolding tagged
 tagged-most name ε content = omega (arith, tagged-empty name content)
 tagged-most name (e · d) content =
     let end = name ++ (62 ∷ []) in
-    omega (arith, length-append name (62 ∷ (content ++ (60 ∷ 47 ∷ end))), length-append content (60 ∷ 47 ∷ end), length-append name (62 ∷ []))
+    omega (
+      arith,
+      length-append name (62 ∷ (content ++ (60 ∷ 47 ∷ end))),
+      length-append content (60 ∷ 47 ∷ end),
+      length-append name (62 ∷ []),
+    )
 
 -- with the whole innermost element in place of its start tag and content, the written form has no more than i bytes for what is read
 abbrev Fits : (list s : List ℕ) → Document → List Open → ℕ → Type 0
@@ -118,7 +130,8 @@ Fits list s d os i =
 
 -- it ends: it goes behind what its parent held before it
 ended : (list s : List ℕ) (g : ℕ) (p : Place) (d : Document) (os : List Open) (n i j : ℕ) (r t : List ℕ)
-    → Sound list s g (record { place = p; content = d; opened = os; nodes = n }) i r → 0 < length os → Good s d → Fits list s d os j → Sound list s g (closed d os n) j t
+    → Sound list s g (record { place = p; content = d; opened = os; nodes = n }) i r → 0 < length os → Good s d → Fits list s d os j → Sound
+    list s g (closed d os n) j t
 unfolding closed innermost tag-node is-text nodes good-words every size written outside behind
 ended list s g p d [] n i j r t x inside good fits = absurd (omega arith)
 ended list s g p d (o ∷ os) n i j r t x inside good fits = record {
@@ -127,7 +140,8 @@ ended list s g p d (o ∷ os) n i j r t x inside good fits = record {
       (own .some, own .listed, omega (arith, own .shallow), subst (λ (m : ℕ). KeepsD g m false d) (omega arith) (x .keeps));
   counted = omega (arith, x .counted, size-behind (o .earlier) element);
   few = x .few;
-  here = around os (own .root) (good-behind s (o .earlier) element (own .good) good) (omega (arith, written-behind list s (o .earlier) element));
+  here = around os (own .root) (good-behind s (o .earlier) element (own .good) good)
+      (omega (arith, written-behind list s (o .earlier) element));
 }
   where
     own : OpenIn s g os o
@@ -136,7 +150,8 @@ ended list s g p d (o ∷ os) n i j r t x inside good fits = record {
     element : Element
     element = tag-node (o .name) d
 
-    around : (os : List Open) → (length os ≡ 0 → o .earlier ≡ ε) → Good s (behind (o .earlier) element) → bytes-read list s (behind (o .earlier) element) os ≤ j
+    around : (os : List Open) → (length os ≡ 0 → o .earlier ≡ ε) → Good s (behind (o .earlier) element) → bytes-read list s
+        (behind (o .earlier) element) os ≤ j
         → At list s (behind (o .earlier) element) os n j t (outside os)
     around [] r h l = (refl, h, l, (element, ap (λ (c : Document). behind c element) (r refl), refl))
     around (p ∷ os) r h l = (omega arith, h, l, ends-behind false (o .earlier) element)
@@ -162,10 +177,12 @@ module _ (list s : List ℕ) (g : ℕ) (d : Document) (os : List Open) (n i b : 
   -- ---- from place to place
 
   -- what is read stays the same
-  elsewhere : (p q : Place) (j : ℕ) (r : List ℕ) → (At list s d os n i (b ∷ t) p → At list s d os n j r q) → Sound list s g (at p) i (b ∷ t) → Sound list s g (at q) j r
+  elsewhere : (p q : Place) (j : ℕ) (r : List ℕ) → (At list s d os n i (b ∷ t) p → At list s d os n j r q) → Sound list s g (at p) i
+      (b ∷ t) → Sound list s g (at q) j r
   elsewhere p q j r h x = record { open-right = x .open-right; keeps = x .keeps; counted = x .counted; few = x .few; here = h (x .here) }
 
-  goes : (p q : Place) {k : Class} → (class-of b ≡ k → Allowed list os n b t (to q) → At list s d os n i (b ∷ t) p → At list s d os n (suc i) t q) → On p k (to q)
+  goes : (p q : Place) {k : Class} →
+      (class-of b ≡ k → Allowed list os n b t (to q) → At list s d os n i (b ∷ t) p → At list s d os n (suc i) t q) → On p k (to q)
   unfolding moved
   goes p q h c f = elsewhere p q (suc i) t (h c f)
 
@@ -201,7 +218,8 @@ module _ (list s : List ℕ) (g : ℕ) (d : Document) (os : List Open) (n i b : 
 
   text-over : On in-text less (to tag-open)
   unfolding start-tag does move-number place-number is class-number every
-  text-over = goes in-text tag-open {k = less} (λ c f h. let e = text-ends b t (rw c) in (h .0, h .1 (rw e), omega (arith, ap length e), room (to tag-open) refl f))
+  text-over = goes in-text tag-open {k = less}
+      (λ c f h. let e = text-ends b t (rw c) in (h .0, h .1 (rw e), omega (arith, ap length e), room (to tag-open) refl f))
 
   end-begins : On tag-open slash (to end-open)
   end-begins = goes tag-open end-open (λ c f h. (h .0, h .1, omega arith))
@@ -221,11 +239,13 @@ module _ (list s : List ℕ) (g : ℕ) (d : Document) (os : List Open) (n i b : 
   end-gap-on = goes end-gap end-gap (λ c f h. (h .0, h .1, omega arith))
 
   -- in a name: it goes on, or it is over, and then the byte may as well stand in the gap behind it
-  name-on : (p : Place) {k : Class} → (length (name-at (b ∷ t)) ≡ suc (length (name-at t)) → At list s d os n i (b ∷ t) p → At list s d os n (suc i) t p)
+  name-on : (p : Place) {k : Class} →
+      (length (name-at (b ∷ t)) ≡ suc (length (name-at t)) → At list s d os n i (b ∷ t) p → At list s d os n (suc i) t p)
       → Yes (name-class k) → On p k (to p)
   name-on p h e = goes p p (λ c f. h (ap length (name-goes-on b t (as-name-byte b c e))))
 
-  name-over : (p q : Place) {k : Class} {m : Move} {st : State} → (length (name-at (b ∷ t)) ≡ 0 → At list s d os n i (b ∷ t) p → At list s d os n i (b ∷ t) q)
+  name-over : (p q : Place) {k : Class} {m : Move} {st : State} →
+      (length (name-at (b ∷ t)) ≡ 0 → At list s d os n i (b ∷ t) p → At list s d os n i (b ∷ t) q)
       → name-class k ≡ false → Leads q k m st → Leads p k m st
   name-over p q h e l c f x = l c f (elsewhere p q i (b ∷ t) (h (ap length (name-ends b t (as-name-byte b c e)))) x)
 
@@ -243,7 +263,8 @@ module _ (list s : List ℕ) (g : ℕ) (d : Document) (os : List Open) (n i b : 
 
   -- ---- an element ends, by /> or by its end tag
 
-  ended-by : (p : Place) {k : Class} → (At list s d os n i (b ∷ t) p → (0 < length os) × Good s d × Fits list s d os (suc i)) → On p k closes
+  ended-by : (p : Place) {k : Class} →
+      (At list s d os n i (b ∷ t) p → (0 < length os) × Good s d × Fits list s d os (suc i)) → On p k closes
   unfolding moved
   ended-by p h c f x = let (inside, good, fits) = h (x .here) in ended list s g p d os n i (suc i) (b ∷ t) t x inside good fits
 
@@ -284,7 +305,8 @@ module _ (list s : List ℕ) (g : ℕ) (d : Document) (os : List Open) (n i b : 
   module _ (checked : names-of list ≡ passes g) where
     -- an element opens, with the content so far before it
     opened-by : (p : Place)
-        → (At list s d os n i (b ∷ t) p → (length os ≡ 0 → d ≡ ε) × Good s d × (bytes-read list s d os < i) × Room os n (b ∷ t)) → On p letter opens
+        → (At list s d os n i (b ∷ t) p → (length os ≡ 0 → d ≡ ε) × Good s d × (bytes-read list s d os < i) × Room os n (b ∷ t)) → On p
+        letter opens
     unfolding moved size written does move-number letter-byte is class-number
     opened-by p h c f x =
         let name = name-at (b ∷ t) in
@@ -323,7 +345,8 @@ module _ (list s : List ℕ) (g : ℕ) (d : Document) (os : List Open) (n i b : 
         let name = name-at (b ∷ t) in
         let named = f .innermost-named refl in
         let listed : tag-of list name ≢ 0 = λ z. let o = innermost-some s g os (x .open-right) (x .here .0) in omega arith in
-        let read = ap (λ (a : ℕ). length (name-of list a)) (sym named) ∙ ap length (name-of-tag list g checked name listed ∙ name-goes-on b t (as-name-byte b c refl)) in
+        let read = ap (λ (a : ℕ). length (name-of list a)) (sym named) ∙ ap length
+        (name-of-tag list g checked name listed ∙ name-goes-on b t (as-name-byte b c refl)) in
         elsewhere end-open end-name (suc i) t (λ h. (h .0, h .1, omega arith)) x
 
     -- ---- the moves of a place, one for each class: white, letter, digit, hyphen, <, >, /, other, forbidden
@@ -338,7 +361,8 @@ module _ (list s : List ℕ) (g : ℕ) (d : Document) (os : List Open) (n i b : 
     keeps-sound rest blank =
         row (Move-of blank) blank-on (text-begun rest refl refl) (text-begun rest refl refl) (text-begun rest refl refl)
         tag-begins stop (text-begun rest refl refl) (text-begun rest refl refl) stop
-    keeps-sound rest in-text = row (Move-of in-text) (text-on refl) (text-on refl) (text-on refl) (text-on refl) text-over stop (text-on refl) (text-on refl) stop
+    keeps-sound rest in-text = row (Move-of in-text) (text-on refl) (text-on refl) (text-on refl) (text-on refl) text-over stop
+        (text-on refl) (text-on refl) stop
     keeps-sound rest tag-open = row (Move-of tag-open) stop tag-opened stop stop stop stop end-begins stop stop
     keeps-sound rest start-name =
         row (Move-of start-name) (start-over refl start-gap-on) (start-on refl) (start-on refl) (start-on refl)

@@ -5,17 +5,30 @@ use Prim.Native.Nat.{ℕ}
 use Prim.Native.String.{String}
 use lib.ListN.{length, replicate}
 use Rattle.model.specs.Lists.{_∈_, has, every, only, from, row, grid}
-use Rattle.model.specs.Answers.{Said, count, stuck, refusal, Checked, refuses, _>>=_, _>>_, require, room-for, answer-of, buffer-after}
+use Rattle.model.specs.Answers.{Said, count, stuck, refusal, Checked, refuses, _>>=_, _>>_, require, room-for, answer-of}
+use Rattle.model.specs.Answers.{buffer-after}
 use Rattle.model.specs.Tree.{ε, size, words, nodes, text-symbol, tag-symbol, look, children-by, children, tree-of}
-use Rattle.model.specs.Sheet.{mask, set-words, signed-word, arc-word, order-words, sum-words, step-words, count-words, rule-words, sheet-words, small, then, word, one-of, all, bit, members, set-below, arc-ok, arc, order, signed, coefficient, sum, at-most-step, remainder-step, one-earlier, two-earlier, step, steps, target, text-rule, tag-rule, order-rule, count-rule, order-count-rule, rule, sheet, ended, sheet-of, file-words}
-use Rattle.model.specs.Words.{entered, next-set, last-set, meets, fits-order, reads-from, reads, occurrences, total, remainder-of, holds, truths, fits-count}
-use Rattle.model.specs.Run.{at-text, at-content, at-tag, text-targets, content-targets, element-targets, kind, of-kind, looks-of, tries, element-looks, and-also, gist, items, child-words, child-states, judge-text, judge-element, judge-node, run, last-zero, root-verdict, verdict}
-use Rattle.model.specs.Compose.{swapped, lift-order, pair-order, joint-order, coefficient-of, lift-sum, lift-step, joint-count, pair-rule, joint-rules, joint, positions-of, arcs-of, steps-of, within-limits}
+use Rattle.model.specs.Sheet.{mask, set-words, signed-word, arc-word, order-words, sum-words, step-words, count-words, rule-words}
+use Rattle.model.specs.Sheet.{sheet-words, small, then, word, one-of, all, bit, members, set-below, arc-ok, arc, order, signed}
+use Rattle.model.specs.Sheet.{coefficient, sum, at-most-step, remainder-step, one-earlier, two-earlier, step, steps, target}
+use Rattle.model.specs.Sheet.{text-rule, tag-rule, order-rule, count-rule, order-count-rule, rule, sheet, ended, sheet-of, file-words}
+use Rattle.model.specs.Words.{entered, next-set, last-set, meets, fits-order, reads-from, reads, occurrences, total, remainder-of}
+use Rattle.model.specs.Words.{holds, truths, fits-count}
+use Rattle.model.specs.Run.{at-text, at-content, at-tag, text-targets, content-targets, element-targets, kind, of-kind, looks-of}
+use Rattle.model.specs.Run.{tries, element-looks, and-also, gist, items, child-words, child-states, judge-text, judge-element}
+use Rattle.model.specs.Run.{judge-node, run, last-zero, root-verdict, verdict}
+use Rattle.model.specs.Compose.{swapped, lift-order, pair-order, joint-order, coefficient-of, lift-sum, lift-step, joint-count}
+use Rattle.model.specs.Compose.{pair-rule, joint-rules, joint, positions-of, arcs-of, steps-of, within-limits}
 use Rattle.model.specs.Bytes.{class-number, is, class-of, letter-byte, name-byte, is-name, same-bytes, digit-byte, kind-of-text}
 use Rattle.model.specs.Names.{prepend, lines, number-from, tag-of, name-of, good-line, lines-checked, names-of}
-use Rattle.model.specs.Written.{source-bytes, tagged, written, text-byte, solid-byte, trimmed-text, good-text, good-words, texts-checked, short-enough}
-use Rattle.model.specs.Text.{State, blank, moves, move, place-number, move-number, does, name-at, trimmed, text-at, behind, text-node, tag-node, outside, closed, moved, state-at, refusal-2, refusal-3, refusal-4, innermost, refusal-5, start-tag, refusal-6, refusal-7, number-at, first-refused, form-of}
-use Rattle.model.specs.Calls.{names-said, read-said, tree-said, write-said, sheet-said, from-file, from-file-said, verdict-of, judge-said, first-states, states-after, judge-states, swap-said, swap-out, in-second, joined, join-said, join-out}
+use Rattle.model.specs.Written.{source-bytes, tagged, written, text-byte, solid-byte, trimmed-text, good-text, good-words}
+use Rattle.model.specs.Written.{texts-checked, short-enough}
+use Rattle.model.specs.Text.{State, blank, moves, move, place-number, move-number, does, name-at, trimmed, text-at, behind, text-node}
+use Rattle.model.specs.Text.{tag-node, outside, closed, moved, state-at, refusal-2, refusal-3, refusal-4, innermost, refusal-5}
+use Rattle.model.specs.Text.{start-tag, refusal-6, refusal-7, number-at, first-refused, form-of}
+use Rattle.model.specs.Calls.{names-said, read-said, tree-said, write-said, sheet-said, from-file, from-file-said, verdict-of}
+use Rattle.model.specs.Calls.{judge-said, first-states, states-after, judge-states, swap-said, swap-out, in-second, joined, join-said}
+use Rattle.model.specs.Calls.{join-out}
 use Rattle.model.specs.Calls as calls
 use Rattle.model.specs.Line.{bytes}
 use Rattle.model.proofs.Examples.{All, that-is-all, _and_, all-∈, both}
@@ -133,11 +146,14 @@ table =
     ∷ form-of-length 65536 (refuses 24 65536)
     ∷ judge-says (sheet-with 0 []) (1 ∷ 1 ∷ 0 ∷ 0 ∷ []) (7 ∷ 7 ∷ []) (0 ∷ 7 ∷ []) (stuck 0 0)
     ∷ judge-says (sheet-with 0 []) (1 ∷ 1 ∷ 0 ∷ 0 ∷ []) [] [] (refusal 22 1)
-    ∷ judge-says (1 ∷ 2 ∷ 1 ∷ 0 ∷ 2 ∷ 3 ∷ 32 ∷ 0 ∷ 38 ∷ 1 ∷ 0 ∷ 0 ∷ 38 ∷ 1 ∷ 0 ∷ 1 ∷ []) (1 ∷ 2 ∷ 0 ∷ 0 ∷ 1 ∷ 1 ∷ 0 ∷ 0 ∷ []) (7 ∷ 7 ∷ 7 ∷ []) (0 ∷ 0 ∷ 7 ∷ []) (refusal 23 1)
-    ∷ judge-says (1 ∷ 2 ∷ 1 ∷ 0 ∷ 2 ∷ 3 ∷ 32 ∷ 0 ∷ 38 ∷ 1 ∷ 0 ∷ 0 ∷ 38 ∷ 1 ∷ 0 ∷ 1 ∷ []) (3 ∷ 1 ∷ 0 ∷ 0 ∷ []) (7 ∷ 7 ∷ []) (7 ∷ 7 ∷ []) (refusal 10 0)
+    ∷ judge-says (1 ∷ 2 ∷ 1 ∷ 0 ∷ 2 ∷ 3 ∷ 32 ∷ 0 ∷ 38 ∷ 1 ∷ 0 ∷ 0 ∷ 38 ∷ 1 ∷ 0 ∷ 1 ∷ []) (1 ∷ 2 ∷ 0 ∷ 0 ∷ 1 ∷ 1 ∷ 0 ∷ 0 ∷ [])
+    (7 ∷ 7 ∷ 7 ∷ []) (0 ∷ 0 ∷ 7 ∷ []) (refusal 23 1)
+    ∷ judge-says (1 ∷ 2 ∷ 1 ∷ 0 ∷ 2 ∷ 3 ∷ 32 ∷ 0 ∷ 38 ∷ 1 ∷ 0 ∷ 0 ∷ 38 ∷ 1 ∷ 0 ∷ 1 ∷ []) (3 ∷ 1 ∷ 0 ∷ 0 ∷ []) (7 ∷ 7 ∷ []) (7 ∷ 7 ∷ [])
+    (refusal 10 0)
     ∷ swap-says (sheet-with 0 []) (7 ∷ 7 ∷ 7 ∷ 7 ∷ 7 ∷ 7 ∷ 7 ∷ []) (1 ∷ 1 ∷ 0 ∷ 0 ∷ 2 ∷ 0 ∷ 7 ∷ []) (count 6)
     ∷ swap-says (sheet-with 0 []) (7 ∷ 7 ∷ 7 ∷ 7 ∷ 7 ∷ []) (7 ∷ 7 ∷ 7 ∷ 7 ∷ 7 ∷ []) (refusal 22 6)
-    ∷ join-says (1 ∷ 1 ∷ 1 ∷ 0 ∷ 2 ∷ 0 ∷ []) (1 ∷ 2 ∷ 2 ∷ 0 ∷ 2 ∷ 0 ∷ []) (7 ∷ 7 ∷ 7 ∷ 7 ∷ 7 ∷ 7 ∷ 7 ∷ []) (1 ∷ 2 ∷ 2 ∷ 0 ∷ 2 ∷ 0 ∷ 7 ∷ []) (count 6)
+    ∷ join-says (1 ∷ 1 ∷ 1 ∷ 0 ∷ 2 ∷ 0 ∷ []) (1 ∷ 2 ∷ 2 ∷ 0 ∷ 2 ∷ 0 ∷ []) (7 ∷ 7 ∷ 7 ∷ 7 ∷ 7 ∷ 7 ∷ 7 ∷ []) (1 ∷ 2 ∷ 2 ∷ 0 ∷ 2 ∷ 0 ∷ 7 ∷ [])
+    (count 6)
     ∷ join-says (1 ∷ 1 ∷ 1 ∷ 0 ∷ 2 ∷ 0 ∷ []) (1 ∷ 2 ∷ 2 ∷ 0 ∷ 3 ∷ 0 ∷ []) (7 ∷ []) (7 ∷ []) (refusal 20 3)
     ∷ join-says (1 ∷ 1 ∷ 1 ∷ 0 ∷ 2 ∷ 0 ∷ []) (1 ∷ 2 ∷ 4 ∷ 0 ∷ 2 ∷ 0 ∷ []) (7 ∷ []) (7 ∷ []) (refusal 9 20002)
     ∷ join-says (1 ∷ 8 ∷ 1 ∷ 0 ∷ 2 ∷ 0 ∷ []) (1 ∷ 9 ∷ 2 ∷ 0 ∷ 2 ∷ 0 ∷ []) (7 ∷ []) (7 ∷ []) (refusal 21 1)
@@ -147,13 +163,31 @@ table =
 -- ---- the theorem
 
 computed : All Holds table
-unfolding Holds table list inside sheet-with bytes both flatMap has every only from row grid _>>=_ _>>_ require room-for answer-of buffer-after size words nodes text-symbol tag-symbol look children-by children tree-of mask set-words signed-word arc-word order-words sum-words step-words count-words rule-words sheet-words small then word one-of all bit members set-below arc-ok arc order signed coefficient sum at-most-step remainder-step one-earlier two-earlier step steps target text-rule tag-rule order-rule count-rule order-count-rule rule sheet ended sheet-of file-words entered next-set last-set meets fits-order reads-from reads occurrences total remainder-of holds truths fits-count at-text at-content at-tag text-targets content-targets element-targets kind of-kind looks-of tries element-looks and-also gist items child-words child-states judge-text judge-element judge-node run last-zero root-verdict verdict swapped lift-order pair-order joint-order coefficient-of lift-sum lift-step joint-count pair-rule joint-rules joint positions-of arcs-of steps-of within-limits class-number is class-of letter-byte name-byte is-name same-bytes digit-byte kind-of-text prepend lines number-from tag-of name-of good-line lines-checked names-of source-bytes tagged written text-byte solid-byte trimmed-text good-text good-words texts-checked short-enough moves move place-number move-number does name-at trimmed text-at behind text-node tag-node outside closed moved state-at refusal-2 refusal-3 refusal-4 innermost refusal-5 start-tag refusal-6 refusal-7 number-at first-refused form-of names-said read-said tree-said write-said sheet-said from-file from-file-said verdict-of judge-said first-states states-after judge-states swap-said swap-out in-second joined join-said join-out calls.read calls.write calls.judge calls.swap calls.join
+unfolding Holds table list inside sheet-with bytes both flatMap has every only from row grid _>>=_ _>>_ require room-for answer-of
+    buffer-after size words nodes text-symbol tag-symbol look children-by children tree-of mask set-words signed-word arc-word order-words
+    sum-words step-words count-words rule-words sheet-words small then word one-of all bit members set-below arc-ok arc order signed
+    coefficient sum at-most-step remainder-step one-earlier two-earlier step steps target text-rule tag-rule order-rule count-rule
+    order-count-rule rule sheet ended sheet-of file-words entered next-set last-set meets fits-order reads-from reads occurrences total
+    remainder-of holds truths fits-count at-text at-content at-tag text-targets content-targets element-targets kind of-kind looks-of tries
+    element-looks and-also gist items child-words child-states judge-text judge-element judge-node run last-zero root-verdict verdict
+    swapped lift-order pair-order joint-order coefficient-of lift-sum lift-step joint-count pair-rule joint-rules joint positions-of arcs-of
+    steps-of within-limits class-number is class-of letter-byte name-byte is-name same-bytes digit-byte kind-of-text prepend lines
+    number-from tag-of name-of good-line lines-checked names-of source-bytes tagged written text-byte solid-byte trimmed-text good-text
+    good-words texts-checked short-enough moves move place-number move-number does name-at trimmed text-at behind text-node tag-node outside
+    closed moved state-at refusal-2 refusal-3 refusal-4 innermost refusal-5 start-tag refusal-6 refusal-7 number-at first-refused form-of
+    names-said read-said tree-said write-said sheet-said from-file from-file-said verdict-of judge-said first-states states-after
+    judge-states swap-said swap-out in-second joined join-said join-out calls.read calls.write calls.judge calls.swap calls.join
 computed =
-    refl and refl and refl and refl and refl and refl and refl and refl and refl and refl and refl and refl and refl and refl and refl and refl
-    and refl and refl and refl and refl and refl and refl and refl and refl and refl and refl and refl and refl and refl and refl and refl and
-    refl and refl and refl and refl and refl and refl and refl and refl and refl and refl and refl and refl and refl and refl and refl and refl
-    and refl and refl and refl and refl and refl and refl and refl and refl and refl and refl and refl and refl and refl and refl and refl and
-    refl and refl and refl and refl and refl and refl and refl and refl and refl and refl and refl and refl and refl and refl and that-is-all
+    refl and refl and refl and refl and refl and refl and refl and refl and refl and refl and refl and refl and refl and refl and refl and
+    refl
+    and refl and refl and refl and refl and refl and refl and refl and refl and refl and refl and refl and refl and refl and refl and refl
+    and
+    refl and refl and refl and refl and refl and refl and refl and refl and refl and refl and refl and refl and refl and refl and refl and
+    refl
+    and refl and refl and refl and refl and refl and refl and refl and refl and refl and refl and refl and refl and refl and refl and refl
+    and
+    refl and refl and refl and refl and refl and refl and refl and refl and refl and refl and refl and refl and refl and refl and
+    that-is-all
 
 pub refusals-hold : (x : Example) → x ∈ table → Holds x
 refusals-hold = all-∈ Holds computed

@@ -9,7 +9,8 @@ use lib.ListN.{length, drop, length-drop}
 use lib.Seq.{length-take-le}
 use borrow.Author.Tests.{leb-true}
 use Rattle.model.specs.Answers.{passes}
-use Rattle.model.specs.Tree.{Span, Element, text, tag, Document, ε, _·_, size, sizeD, nodes, nodesD, words, wordsD, without-starts, is-text, Keeps, KeepsD, Over}
+use Rattle.model.specs.Tree.{Span, Element, text, tag, Document, ε, _·_, size, sizeD, nodes, nodesD, words, wordsD, without-starts}
+use Rattle.model.specs.Tree.{is-text, Keeps, KeepsD, Over}
 use Rattle.model.specs.Bytes.{kind-of-text}
 use Rattle.model.specs.Names.{name-of, names-of}
 use Rattle.model.specs.Text.{Place, Open, State, blank, in-text, outside, behind, text-node, tag-node, form-of}
@@ -19,7 +20,8 @@ use Rattle.model.proofs.Tests.{Yes, never, and-left, and-right, same}
 use Rattle.model.proofs.DocumentLaws.{followed, followed-ε, followed-behind, ends-in-text, GoodNodes, texts-good}
 use Rattle.model.proofs.NameLaws.{name-is, tag-of-name}
 use Rattle.model.specs.Text.{state, an-open}
-use Rattle.model.proofs.RoundScan.{content-place, Scans, nothing, then, text-run, Listed, Leads, at-root, in-content, empty-run, full-run, form-read}
+use Rattle.model.proofs.RoundScan.{content-place, Scans, nothing, then, text-run, Listed, Leads, at-root, in-content, empty-run}
+use Rattle.model.proofs.RoundScan.{full-run, form-read}
 
 -- ---- checked text words
 
@@ -105,7 +107,8 @@ module _ (list s : List ℕ) where
   -- a text, which stands behind no text
   read-text : (k : ℕ) (w : Span) (after-text : Bool) → (after-text && true) ≡ false → Yes (good-text s k w)
       → {c : Document} {os : List Open} {n i : ℕ} (rest : List ℕ) → n < 4096
-      → Scans list (state (content-place after-text) c os n) i (source-bytes s w) (60 ∷ rest) (state in-text (behind c (placed i (text k w))) os (n + 1))
+      → Scans list (state (content-place after-text) c os n) i (source-bytes s w) (60 ∷ rest)
+      (state in-text (behind c (placed i (text k w))) os (n + 1))
   unfolding placed text-node
   read-text k w true apart t rest room = never (sym apart)
   read-text k w false apart t {c} {i = i} rest room =
@@ -133,7 +136,8 @@ module _ (list s : List ℕ) where
         → (let j = content-at i a in let os′ = an-open a c ∷ os in (r : List ℕ)
         → Scans list (state blank ε os′ (suc n)) j (writtenD list s d) (60 ∷ r)
         (state (content-place (ends-in-text false d)) (placedD j d) os′ (suc n + sizeD d)))
-        → Scans list (state p c os n) i (written list s (tag a w d)) rest (state (outside os) (behind c (placed i (tag a w d))) os (n + suc (sizeD d)))
+        → Scans list (state p c os n) i (written list s (tag a w d)) rest
+        (state (outside os) (behind c (placed i (tag a w d))) os (n + suc (sizeD d)))
     unfolding written tagged placed size
     read-tag a w ε h k leads deep room content = ends-as (empty-run list leads (listed a h k) deep room) refl (omega arith)
     read-tag a w (e · d) h k leads deep room content =
@@ -144,7 +148,8 @@ module _ (list s : List ℕ) where
       unfolding size nodes good-words written placed is-text outside followed ends-in-text
 
       read-element : (e : Element) (levels : ℕ) (after-text : Bool) → (after-text && is-text e) ≡ false → Keeps g levels e
-          → {c : Document} {o : Open} {os : List Open} {n i : ℕ} (rest : List ℕ) → suc (length os) + levels ≤ 32 → n + size e ≤ 4096 → GoodNodes s (nodes e)
+          → {c : Document} {o : Open} {os : List Open} {n i : ℕ} (rest : List ℕ) → suc
+          (length os) + levels ≤ 32 → n + size e ≤ 4096 → GoodNodes s (nodes e)
           → (Yes (is-text e) → (r : List ℕ) × (rest ≡ 60 ∷ r))
           → Scans list (state (content-place after-text) c (o ∷ os) n) i (written list s e) rest
           (state (content-place (is-text e)) (behind c (placed i e)) (o ∷ os) (n + size e))
@@ -153,10 +158,12 @@ module _ (list s : List ℕ) where
           rw e (read-text k w after-text apart (every-cons (good-words s) (text k w) [] good .0) r (omega arith))
       read-element (tag a w d) levels after-text apart keeps rest deep few good next =
           read-tag a w d (keeps .0) (keeps .1) (in-content list after-text) (omega arith) (omega arith)
-          (λ r. read-document d (levels - 1) false (keeps .3) r (omega arith) (omega arith) (every-cons (good-words s) (tag a w d) (nodesD d) good .1))
+          (λ r. read-document d (levels - 1) false (keeps .3) r (omega arith) (omega arith)
+          (every-cons (good-words s) (tag a w d) (nodesD d) good .1))
 
       read-document : (d : Document) (levels : ℕ) (after-text : Bool) → KeepsD g levels after-text d
-          → {c : Document} {o : Open} {os : List Open} {n i : ℕ} (rest : List ℕ) → suc (length os) + levels ≤ 32 → n + sizeD d ≤ 4096 → GoodNodes s (nodesD d)
+          → {c : Document} {o : Open} {os : List Open} {n i : ℕ} (rest : List ℕ) → suc
+          (length os) + levels ≤ 32 → n + sizeD d ≤ 4096 → GoodNodes s (nodesD d)
           → Scans list (state (content-place after-text) c (o ∷ os) n) i (writtenD list s d) (60 ∷ rest)
           (state (content-place (ends-in-text after-text d)) (followed c (placedD i d)) (o ∷ os) (n + sizeD d))
       read-document ε levels after-text keeps {c} rest deep few good = ends-as (nothing list) (sym (followed-ε c)) (omega arith)
@@ -180,6 +187,7 @@ written-read list s g (tag a w d) checked over texts short =
       placed list s 0 (tag a w d),
       form-read list short
           (read-tag list s g checked a w d (over .keeps .0) (over .keeps .1) (at-root list) (omega arith) (omega arith)
-          (λ r. read-document list s g checked d 31 false (over .keeps .3) r (omega arith) (omega arith) (every-cons (good-words s) (tag a w d) (nodesD d) good .1))),
+          (λ r. read-document list s g checked d 31 false (over .keeps .3) r (omega arith) (omega arith)
+          (every-cons (good-words s) (tag a w d) (nodesD d) good .1))),
       simp append-nil at (placed-words list s (tag a w d) 0 good [] [] refl),
     )

@@ -13,7 +13,10 @@ use Rattle.model.specs.Answers.{passes}
 use Rattle.model.specs.Tree.{Document, ε}
 use Rattle.model.specs.Bytes.{Class, white, letter, forbidden, class-number, is, class-of, letter-byte, name-byte, is-name}
 use Rattle.model.specs.Names.{tag-of}
-use Rattle.model.specs.Text.{Place, before, root-open, blank, in-text, tag-open, start-name, start-slash, end-open, end-name, after, Move, to, opens, begins, names, closes, stops, moves, move, place-number, move-number, does, Open, State, start, name-at, behind, text-node, tag-node, outside, closed, moved, innermost, start-tag, refusal-2, refusal-3, refusal-4, refusal-5, refusal-6, refusal-7, number-at, form-of}
+use Rattle.model.specs.Text.{Place, before, root-open, blank, in-text, tag-open, start-name, start-slash, end-open, end-name, after}
+use Rattle.model.specs.Text.{Move, to, opens, begins, names, closes, stops, moves, move, place-number, move-number, does, Open, State}
+use Rattle.model.specs.Text.{start, name-at, behind, text-node, tag-node, outside, closed, moved, innermost, start-tag, refusal-2}
+use Rattle.model.specs.Text.{refusal-3, refusal-4, refusal-5, refusal-6, refusal-7, number-at, form-of}
 use Rattle.model.specs.Written.{text-byte, solid-byte, trimmed-text}
 use Rattle.model.proofs.ListLaws.{every-cons}
 use Rattle.model.proofs.Tests.{Yes, never, eqb-yes, eqb-false}
@@ -55,7 +58,8 @@ module _ (list : List ℕ) where
 
   -- a byte that is not refused, and then others
   byte : {i b : ℕ} {xs rest : List ℕ} {p : Place} {c : Document} {os : List Open} {n : ℕ} {st′ : State} (m : Move)
-      → Does p m (class-of b) → number-by (state p c os n) b (xs ++ rest) m ≡ 0 → Scans (moved list (state p c os n) i (b ∷ (xs ++ rest)) m) (suc i) xs rest st′
+      → Does p m (class-of b) → number-by (state p c os n) b (xs ++ rest) m ≡ 0 → Scans (moved list (state p c os n) i (b ∷ (xs ++ rest)) m)
+      (suc i) xs rest st′
       → Scans (state p c os n) i (b ∷ xs) rest st′
   unfolding scan number-at refusal-2 refusal-3 refusal-4 refusal-5 refusal-6 refusal-7
   byte {i} {b} {xs} {rest} {p} {c} {os} {n} {st′} m (e, f) z r =
@@ -93,7 +97,8 @@ module _ (list : List ℕ) where
       (text-at-end b bytes rest all last)
       (byte begins (text-begins b u first) (rw (lt-leb 4096 n room))
       (run in-text text-byte
-      (text-cases (Does in-text (to in-text)) (refl, refl) (refl, refl) (refl, refl) (refl, refl) (refl, refl) (refl, refl)) (λ b s. refl) bytes v))
+      (text-cases (Does in-text (to in-text)) (refl, refl) (refl, refl) (refl, refl) (refl, refl) (refl, refl) (refl, refl))
+      (λ b s. refl) bytes v))
 
   -- ---- tags
 
@@ -104,7 +109,8 @@ module _ (list : List ℕ) where
     pub some : a ≢ 0
 
   -- up to a byte that no name has, the name is that of the tag
-  tag-here : (name : List ℕ) {a : ℕ} → Listed name a → (z : ℕ) (rest : List ℕ) → name-byte z ≡ false → tag-of list (name-at (name ++ (z ∷ rest))) ≡ a
+  tag-here : (name : List ℕ) {a : ℕ} → Listed name a → (z : ℕ) (rest : List ℕ) → name-byte z ≡ false → tag-of list
+      (name-at (name ++ (z ∷ rest))) ≡ a
   tag-here name l z rest stop = ap (tag-of list) (name-at-end name z rest (l .named) stop) ∙ l .tag-is
 
   -- The < of a tag leads from place p to place q, where a letter opens an element. With a letter behind it, it wants room for one.
@@ -113,7 +119,8 @@ module _ (list : List ℕ) where
     pub letter-opens : Does q opens letter
     pub less-number : (st : State) (s : List ℕ)
         → number-by st 60 s (to q)
-        ≡ cond (letter-byte (getD s 0 0) && leb 32 (length (st .opened))) 6 (cond ((letter-byte (getD s 0 0) || false) && leb 4096 (st .nodes)) 7 0)
+        ≡ cond (letter-byte (getD s 0 0) && leb 32 (length (st .opened))) 6
+        (cond ((letter-byte (getD s 0 0) || false) && leb 4096 (st .nodes)) 7 0)
 
   pub at-root : Leads before root-open
   unfolding move moves is class-number class-of does move-number place-number start-tag
@@ -133,9 +140,11 @@ module _ (list : List ℕ) where
   start-run {p} {q} {c} {os} {n} {z = z} {rest} (b ∷ name) {a} leads l deep room stop =
       let (first, more) = name-cons b name (l .named) in
       let here = tag-here (b ∷ name) l z rest stop in
-      byte (to q) (leads .less-moves) (leads .less-number (state p c os n) (b ∷ (name ++ (z ∷ rest))) ∙ rw (first, lt-leb 32 (length os) deep, lt-leb 4096 n room))
+      byte (to q) (leads .less-moves)
+      (leads .less-number (state p c os n) (b ∷ (name ++ (z ∷ rest))) ∙ rw (first, lt-leb 32 (length os) deep, lt-leb 4096 n room))
       (rw (← here) (byte opens (rw (letter-class b first) (leads .letter-opens)) (rw (here, eqb-false (l .some)))
-      (run start-name name-byte (name-cases (Does start-name (to start-name)) (refl, refl) (refl, refl) (refl, refl)) (λ b s. refl) name more)))
+      (run start-name name-byte (name-cases (Does start-name (to start-name)) (refl, refl) (refl, refl) (refl, refl))
+      (λ b s. refl) name more)))
 
   -- an end tag
   end-run : {p : Place} {c d : Document} {os : List Open} {n i : ℕ} {rest : List ℕ} (name : List ℕ) {a : ℕ}
@@ -147,22 +156,26 @@ module _ (list : List ℕ) where
       let (first, more) = name-cons b name (l .named) in
       byte (to tag-open) (leads .less-moves) (leads .less-number (state p d (an-open a c ∷ os) n) (47 ∷ ((b ∷ name) ++ (62 ∷ []) ++ rest)))
       (byte (to end-open) (refl, refl) refl
-      (then {xs = b ∷ name} (byte names (rw (letter-class b first) (refl, refl)) (rw (tag-here (b ∷ name) l 62 rest refl, eqb-yes {m = a} refl))
+      (then {xs = b ∷ name} (byte names (rw (letter-class b first) (refl, refl))
+      (rw (tag-here (b ∷ name) l 62 rest refl, eqb-yes {m = a} refl))
       (run end-name name-byte (name-cases (Does end-name (to end-name)) (refl, refl) (refl, refl) (refl, refl)) (λ b s. refl) name more))
       (byte closes (refl, refl) refl nothing)))
 
   -- an empty element; an element whose content is read
   module _ {p q : Place} {name : List ℕ} {a : ℕ} (leads : Leads p q) (listed : Listed name a)
       {c : Document} {os : List Open} {n i : ℕ} (deep : length os < 32) (room : n < 4096) where
-    pub empty-run : {rest : List ℕ} → Scans (state p c os n) i (60 ∷ (name ++ (47 ∷ 62 ∷ []))) rest (state (outside os) (behind c (tag-node a ε)) os (suc n))
+    pub empty-run : {rest : List ℕ} → Scans (state p c os n) i (60 ∷ (name ++ (47 ∷ 62 ∷ []))) rest
+        (state (outside os) (behind c (tag-node a ε)) os (suc n))
     unfolding closed name-byte moved move moves is class-number class-of does move-number place-number start-tag
     empty-run =
         then {xs = 60 ∷ name} (start-run name leads listed deep room refl)
         (byte (to start-slash) (refl, refl) refl (byte closes (refl, refl) refl nothing))
 
     pub full-run : {content rest : List ℕ} {p′ : Place} {d : Document} {m : ℕ} → Leads p′ tag-open
-        → ((r : List ℕ) → Scans (state blank ε (an-open a c ∷ os) (suc n)) (suc (i + suc (length name))) content (60 ∷ r) (state p′ d (an-open a c ∷ os) m))
-        → Scans (state p c os n) i (60 ∷ (name ++ (62 ∷ (content ++ (60 ∷ 47 ∷ (name ++ (62 ∷ []))))))) rest (state (outside os) (behind c (tag-node a d)) os m)
+        → ((r : List ℕ) → Scans (state blank ε (an-open a c ∷ os) (suc n)) (suc (i + suc (length name))) content (60 ∷ r)
+        (state p′ d (an-open a c ∷ os) m))
+        → Scans (state p c os n) i (60 ∷ (name ++ (62 ∷ (content ++ (60 ∷ 47 ∷ (name ++ (62 ∷ []))))))) rest
+        (state (outside os) (behind c (tag-node a d)) os m)
     unfolding name-byte moved move moves is class-number class-of does move-number place-number start-tag
     full-run {rest = rest} ends content =
         then {xs = 60 ∷ name} (start-run name leads listed deep room refl)
@@ -171,6 +184,7 @@ module _ (list : List ℕ) where
   -- ---- forms
 
   -- bytes that lead from the start to a place after the root are a form
-  pub form-read : {bytes : List ℕ} {d : Document} {n : ℕ} → length bytes ≤ 65535 → Scans start 0 bytes [] (state after d [] n) → form-of list bytes ≡ passes d
+  pub form-read : {bytes : List ℕ} {d : Document} {n : ℕ} → length bytes ≤ 65535 → Scans start 0 bytes []
+      (state after d [] n) → form-of list bytes ≡ passes d
   unfolding scan does move-number place-number
   form-read {bytes} short r = scan-is list bytes ∙ rw (le-leb (length bytes) 65535 short) (rw append-nil at (r .goes))

@@ -49,7 +49,8 @@ short-inv : (bytes : List ℕ) {b : List ℕ} → short-enough bytes ≡ passes 
 unfolding short-enough
 short-inv bytes {b} h = go (leb (length bytes) 65535) refl h
   where
-    go : (t : Bool) → leb (length bytes) 65535 ≡ t → cond t (passes bytes) (refuses 24 (length bytes)) ≡ passes b → (length bytes ≤ 65535) × (bytes ≡ b)
+    go : (t : Bool) → leb (length bytes) 65535 ≡ t → cond t (passes bytes) (refuses 24 (length bytes)) ≡ passes b → (length bytes ≤ 65535) ×
+        (bytes ≡ b)
     go true e h = (leb-true (length bytes) 65535 e, passes-inj h)
     go false e h = absurd (refuses≢passes h)
 
@@ -76,25 +77,38 @@ write-inv list s tree room h =
     record { tags = g; form = e; names = names; tree-is = tree-is; texts = texts; short = short; bytes-are = e₁ ∙ passes-inj h₆ }
 
 writes-pass : (list s tree : List ℕ) (room g : ℕ) (e : Element) → names-of list ≡ passes g → length s ≤ 65535 → tree-of g tree ≡ passes e
-    → texts-checked s 0 (nodes e) ≡ passes tt → length (written list s e) ≤ 65535 → length (written list s e) ≤ room → write list s tree room ≡ passes (written list s e)
+    → texts-checked s 0 (nodes e) ≡ passes tt → length (written list s e) ≤ 65535 → length
+    (written list s e) ≤ room → write list s tree room ≡ passes (written list s e)
 unfolding write short-enough _>>=_ _>>_ require
 writes-pass list s tree room g e names long tree-is texts short fits =
-    rw (names, le-leb (length s) 65535 long, tree-is, texts, le-leb (length (written list s e)) 65535 short, room-passes (length (written list s e)) room fits)
+    rw (
+      names,
+      le-leb (length s) 65535 long,
+      tree-is,
+      texts,
+      le-leb (length (written list s e)) 65535 short,
+      room-passes (length (written list s e)) room fits,
+    )
 
 -- ---- written and read again
 
 -- For every tree and text that pass 10 and 11 and are not over 24: what is written is read as the same words but for text starts.
 pub write-read : (list s tree : List ℕ) (room : ℕ) {bytes : List ℕ} → write list s tree room ≡ passes bytes
-    → (again : ℕ) → length tree ≤ again → (d : Document) × (read list bytes again ≡ passes d) × (without-starts (wordsD d) ≡ without-starts tree)
+    → (again : ℕ) → length tree ≤ again → (d : Document) × (read list bytes again ≡ passes d) ×
+    (without-starts (wordsD d) ≡ without-starts tree)
 unfolding read _>>=_ _>>_
 write-read list s tree room {bytes} h again fits =
     let w = write-inv list s tree room h in
     let (t, over) = tree-passes (w .tags) (few-names list (w .tags) (w .names)) tree (w .form) .0 (w .tree-is) in
     let (f, reads, same) = written-read list s (w .tags) (w .form) (w .names) over (w .texts) (w .short) in
-    let long : length (words f) ≡ length tree = sym (length-without (words f)) ∙ ap length same ∙ length-without (words (w .form)) ∙ ap length (sym t) in
+    let long : length (words f) ≡ length tree = sym (length-without (words f)) ∙ ap length same ∙ length-without
+    (words (w .form)) ∙ ap length (sym t) in
     let fits′ : 4 * sizeD (f · ε) ≤ again = omega (arith, one-size f, length-words f) in
-    let reads′ : form-of list bytes ≡ passes (f · ε) = ap (form-of list) (sym (w .bytes-are)) ∙ reads in
-    (f · ε, rw (w .names, reads′, room-passes (4 * sizeD (f · ε)) again fits′), ap without-starts (one-words f) ∙ same ∙ ap without-starts (sym t))
+    let reads′ : form-of list bytes ≡ passes (f · ε) = ap (form-of list) (sym (w .bytes-are)) ∙ reads in (
+      f · ε,
+      rw (w .names, reads′, room-passes (4 * sizeD (f · ε)) again fits′),
+      ap without-starts (one-words f) ∙ same ∙ ap without-starts (sym t),
+    )
 
 -- For every text and name list that read takes, the tree is refused by nothing, 24 included, where there is room for as many
 -- bytes as the text has.

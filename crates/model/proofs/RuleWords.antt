@@ -8,9 +8,11 @@ use Prim.Native.Nat.{ℕ, _+_, _/_, _%_, _≤_, _<_}
 use native.Mathlib.Omega.{arith}
 use lib.ListN.{length, getD, length-append, length-map}
 use Rattle.model.specs.Lists.{has}
-use Rattle.model.specs.Sheet.{Order, Step, Rule, one, two, three, W, mask, set-words, arc-word, order-words, step-words, count-words, rule-words}
+use Rattle.model.specs.Sheet.{Order, Step, Rule, one, two, three, W, mask, set-words, arc-word, order-words, step-words, count-words}
+use Rattle.model.specs.Sheet.{rule-words}
 use Rattle.model.specs.Sheet.{OrderInRange, CountInRange, IfAny}
-use Rattle.model.specs.Spans.{WordsAt, OrderAt, CountAt, RuleAt, Content, content, there-is, map-of, ordered, counted, order-part, count-part}
+use Rattle.model.specs.Spans.{WordsAt, OrderAt, CountAt, RuleAt, Content, content, there-is, map-of, ordered, counted, order-part}
+use Rattle.model.specs.Spans.{count-part}
 use Rattle.model.specs.Index.{key}
 use Rattle.model.proofs.Spans.{word-there, word-here, word-next, span-left, span-right}
 use Rattle.model.proofs.PartLaws.{words-end}
@@ -18,13 +20,22 @@ use Rattle.model.proofs.PartLaws.{words-end}
 -- ---- order parts
 
 -- an order part is as long as its arcs and four words more
-pub order-room : {p a : ℕ} {s : List ℕ} {o : Order} → OrderAt p s a o → (a + 4 + length (o .arcs) ≤ length s) × (getD s (a + 3) 0 ≡ length (o .arcs))
+pub order-room : {p a : ℕ} {s : List ℕ} {o : Order} → OrderAt p s a o → (a + 4 + length (o .arcs) ≤ length s) ×
+    (getD s (a + 3) 0 ≡ length (o .arcs))
 unfolding order-words set-words
 order-room {o = o} h =
     let n = mask (o .positions) (has (o .accepting)) in
     let head : List ℕ = o .positions ∷ n % W ∷ n / W ∷ [] in
-    let count = span-right head (length (o .arcs) ∷ map arc-word (o .arcs)) (h .there) in
-    (omega (arith, word-there count, words-end (h .there) (omega (arith, word-there (h .there))), h .there .ends, length-map (o .arcs) arc-word), word-here count)
+    let count = span-right head (length (o .arcs) ∷ map arc-word (o .arcs)) (h .there) in (
+      omega (
+        arith,
+        word-there count,
+        words-end (h .there) (omega (arith, word-there (h .there))),
+        h .there .ends,
+        length-map (o .arcs) arc-word,
+      ),
+      word-here count,
+    )
 
 -- ---- content rules
 
@@ -77,7 +88,8 @@ module _ {p a : ℕ} {s : List ℕ} {o : Option Order} {φ : Option (List Step)}
   unfolding order-words count-words
   content-there = go o φ parts
     where
-      go : (o : Option Order) (φ : Option (List Step)) → WordsAt s (a + 1) (h .end) (order-part o ++ (count-part p φ ++ (q ∷ []))) → a + 1 < length s
+      go : (o : Option Order) (φ : Option (List Step)) → WordsAt s (a + 1) (h .end)
+          (order-part o ++ (count-part p φ ++ (q ∷ []))) → a + 1 < length s
       go none none w = word-there w
       go none (some ss) w = word-there w
       go (some x) φ w = word-there w
@@ -85,7 +97,8 @@ module _ {p a : ℕ} {s : List ℕ} {o : Option Order} {φ : Option (List Step)}
   pub order-at : {x : Order} → o ≡ some x → OrderAt p s (a + 1) x
   order-at {x} e = record {
     end = a + 1 + length (order-part o);
-    there = subst (WordsAt s (a + 1) (a + 1 + length (order-part o))) (ap order-part e) (span-left (order-part o) (count-part p φ ++ (q ∷ [])) parts);
+    there = subst (WordsAt s (a + 1) (a + 1 + length (order-part o))) (ap order-part e)
+        (span-left (order-part o) (count-part p φ ++ (q ∷ [])) parts);
     ranges = subst (IfAny (OrderInRange p)) e (h .ranges .0);
   }
 
@@ -97,7 +110,8 @@ module _ {p a : ℕ} {s : List ℕ} {o : Option Order} {φ : Option (List Step)}
   no-order e t = not-there o (is-ordered (sym e ∙ t))
 
   -- an order part is as long as its arcs and four words more
-  pub order-end : {r : Bool} → r ≡ ordered (getD s a 0) → r ≡ true → (a + 5 + getD s (a + 4) 0 ≡ a + 1 + length (order-part o)) × (a + 5 + getD s (a + 4) 0 ≤ length s)
+  pub order-end : {r : Bool} → r ≡ ordered (getD s a 0) → r ≡ true → (a + 5 + getD s (a + 4) 0 ≡ a + 1 + length (order-part o)) ×
+      (a + 5 + getD s (a + 4) 0 ≤ length s)
   unfolding order-words set-words
   order-end er t =
       let (x, e, at) = has-order er t in
@@ -129,10 +143,16 @@ module _ {p a : ℕ} {s : List ℕ} {o : Option Order} {φ : Option (List Step)}
     -- the target stands after the count part
     pub after-count : c + length (count-part p φ) + 1 ≡ a + length (rule-words p (three o φ q))
     after-count =
-        omega (arith, ap length (content-words p o φ q), length-append (order-part o) (count-part p φ ++ (q ∷ [])), length-append (count-part p φ) (q ∷ []))
+        omega (
+          arith,
+          ap length (content-words p o φ q),
+          length-append (order-part o) (count-part p φ ++ (q ∷ [])),
+          length-append (count-part p φ) (q ∷ []),
+        )
 
     -- a rule with a count part ends after its steps, one without where the part would stand
-    pub counted-end : {ss : List Step} → φ ≡ some ss → {t : ℕ} → t ≡ c + 1 + length (flatMap (step-words p) ss) → t ≡ c + length (count-part p φ)
+    pub counted-end : {ss : List Step} → φ ≡ some ss → {t : ℕ} → t ≡ c + 1 + length (flatMap (step-words p) ss) → t ≡ c + length
+        (count-part p φ)
     unfolding count-words
     counted-end e i = omega (arith, ap (λ (x : Option (List Step)). length (count-part p x)) e)
 

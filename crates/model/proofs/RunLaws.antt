@@ -10,10 +10,13 @@ use native.Mathlib.Omega.{arith}
 use lib.ListN.{length}
 use borrow.Author.Tests.{lt-ltb, le-ltb}
 use Rattle.model.specs.Lists.{_∈_}
-use Rattle.model.specs.Tree.{Span, Element, text, tag, Document, ε, _·_, size, sizeD, nodes, nodesD, words, wordsD, is-text, Keeps, KeepsD, Over}
+use Rattle.model.specs.Tree.{Span, Element, text, tag, Document, ε, _·_, size, sizeD, nodes, nodesD, words, wordsD, is-text, Keeps}
+use Rattle.model.specs.Tree.{KeepsD, Over}
 use Rattle.model.specs.Sheet.{Rule}
-use Rattle.model.specs.Relation.{To, Each, no-more, more, AtMostOne, ReachesTwo, Single, StateWord, StatesOf, no-words, a-word, Highest}
-use Rattle.model.specs.Run.{text-targets, element-targets, of-kind, element-looks, Reached, nothing, just, several, gist, Item, items, child-words, child-states, Ran, ran, two-at, put, judge-text, judge-element, judge-node, run}
+use Rattle.model.specs.Relation.{To, Each, no-more, more, AtMostOne, ReachesTwo, Single, StateWord, StatesOf, no-words, a-word}
+use Rattle.model.specs.Relation.{Highest}
+use Rattle.model.specs.Run.{text-targets, element-targets, of-kind, element-looks, Reached, nothing, just, several, gist, Item, items}
+use Rattle.model.specs.Run.{child-words, child-states, Ran, ran, two-at, put, judge-text, judge-element, judge-node, run}
 use Rattle.model.proofs.ListLaws.{map-append}
 use Rattle.model.proofs.Outcome.{single-nil, single-cons, cons-inv, text-reaches, ContentSays, element-reaches, Says, gist-says}
 use Rattle.model.proofs.TreeLaws.{length-nodes, length-nodesD}
@@ -81,7 +84,8 @@ less-one n = omega arith
 module _ {R : List Rule} where
   -- nodes inside the last child are passed over
   passed-over : (l m : List Element) (n : ℕ) {st : List ℕ} → StatesOf R (l ++ m) st
-      → (rest : List ℕ) × StatesOf R m rest × (child-words (length l + n) (length l) (map item (l ++ m)) st ≡ child-words n 0 (map item m) rest)
+      → (rest : List ℕ) × StatesOf R m rest ×
+      (child-words (length l + n) (length l) (map item (l ++ m)) st ≡ child-words n 0 (map item m) rest)
   unfolding child-words
   passed-over [] m n {st} t = (st, t, rw (zero-add n))
   passed-over (f ∷ l) m n (a-word h t) = let (rest, r, e) = passed-over l m n t in (rest, r, rw (suc-add (length l) n) e)
@@ -101,10 +105,12 @@ module _ {R : List Rule} where
       → StatesOf R (elements d) (child-words (sizeD d) 0 (map item (nodesD d ++ m)) st)
   unfolding child-words nodesD sizeD elements item
   children-words ε m t = no-words
-  children-words (text k w · d) m (a-word {s = s} h t) = first-child (text k w) [] (nodesD d ++ m) (sizeD d) s refl h t (λ rest r. children-words d m r)
+  children-words (text k w · d) m (a-word {s = s} h t) = first-child (text k w) [] (nodesD d ++ m) (sizeD d) s refl h t
+      (λ rest r. children-words d m r)
   children-words (tag a w c · d) m (a-word {s = s} h t) =
       let inside : StatesOf R (nodesD c ++ (nodesD d ++ m)) _ = rw (append-assoc (nodesD c) (nodesD d) m) at t in
-      let all = first-child (tag a w c) (nodesD c) (nodesD d ++ m) (sizeD d) s (ap suc (sym (length-nodesD c))) h inside (λ rest r. children-words d m r) in
+      let all = first-child (tag a w c) (nodesD c) (nodesD d ++ m) (sizeD d) s (ap suc (sym (length-nodesD c))) h inside
+      (λ rest r. children-words d m r) in
       rw (append-assoc (nodesD c) (nodesD d) m) (rw (length-nodesD c) at all)
 
   -- and their states, where every child has one
@@ -124,7 +130,8 @@ unfolding elements
 length-each ε no-more = refl
 length-each (e · d) (more h r) = ap suc (length-each d r)
 
-looks-≤ : (R : List Rule) (d : Document) (c : Option (List ℕ)) → ContentSays R d c → element-looks R c ≤ of-kind 3 R * suc (length (elements d)) + of-kind 2 R
+looks-≤ : (R : List Rule) (d : Document) (c : Option (List ℕ)) → ContentSays R d c → element-looks R c ≤ of-kind 3 R * suc
+    (length (elements d)) + of-kind 2 R
 unfolding element-looks
 looks-≤ R d none f = omega arith
 looks-≤ R d (some w) r = rw (length-each d r) at (element-looks-≤ R w)
@@ -148,7 +155,8 @@ mutual
 
   forestD : (d : Document) → FormedD d → {n : ℕ} {l : List Element} → Forest n l → Forest (length (elements d) + n) (nodesD d ++ l)
   forestD ε h {n} t = rw (zero-add n) t
-  forestD (e · d) (h, hd) {n} {l} t = rw (suc-add (length (elements d)) n, append-assoc (nodes e) (nodesD d) l) (forest e h (forestD d hd t))
+  forestD (e · d) (h, hd) {n} {l} t = rw (suc-add (length (elements d)) n, append-assoc (nodes e) (nodesD d) l)
+      (forest e h (forestD d hd t))
 
 module _ (R : List Rule) where
   -- What the run says of the nodes of n elements. The bound leaves room for every kind-three rule to read each of these once.
@@ -158,7 +166,8 @@ module _ (R : List Rule) where
 
   -- a node in front, which reaches its targets
   put-judged : (n looks m : ℕ) (f : Element) {l : List Element} {st : List ℕ} (targets : List ℕ) → ((q : ℕ) → (q ∈ targets) ↔ To R f q)
-      → Single R l → StatesOf R l st → looks + m + of-kind 3 R * n ≤ 2 * suc (length l) * length R → Judged n (f ∷ l) (put (gist targets) looks st m)
+      → Single R l → StatesOf R l st → looks + m + of-kind 3 R * n ≤ 2 * suc (length l) * length R → Judged n (f ∷ l)
+      (put (gist targets) looks st m)
   put-judged n looks m f {l} {st} targets reaches s t b = go (gist targets) (gist-says targets reaches)
     where
       go : (g : Reached) → Says R f g → Judged n (f ∷ l) (put g looks st m)
@@ -171,10 +180,12 @@ module _ (R : List Rule) where
   unfolding judge-node judge-text item
   text-judged n k w l h (ran st m) (s, t, b) =
       let e : 64 + k - 64 ≡ k = omega arith in
-      rw (lt-ltb 64 (64 + k) (omega arith), e) (put-judged (suc n) (of-kind 1 R) m (text k w) (text-targets R k) text-reaches s t (omega (arith, kinds R)))
+      rw (lt-ltb 64 (64 + k) (omega arith), e)
+      (put-judged (suc n) (of-kind 1 R) m (text k w) (text-targets R k) text-reaches s t (omega (arith, kinds R)))
   text-judged n k w l h (two-at i) t = highest-later t
 
-  tag-judged : (n a : ℕ) (w : Span) (d : Document) (l : List Element) → a ≤ 64 → (r : Ran) → Judged (length (elements d) + n) (nodesD d ++ l) r
+  tag-judged : (n a : ℕ) (w : Span) (d : Document) (l : List Element) → a ≤ 64 → (r : Ran) → Judged (length (elements d) + n)
+      (nodesD d ++ l) r
       → Judged (suc n) (tag a w d ∷ (nodesD d ++ l)) (judge-node R (item (tag a w d)) (map item (nodesD d ++ l)) r)
   unfolding judge-node judge-element item
   tag-judged n a w d l h (ran st m) (s, t, b) =
@@ -182,7 +193,8 @@ module _ (R : List Rule) where
       let says : ContentSays R d c = children-say d (children-words d l t) in
       let reaches = element-reaches {a = a} {w = w} c (λ f i. s f (Memᴰ·append-left l i)) says in
       rw (le-ltb 64 a h, less-one (sizeD d))
-      (put-judged (suc n) (element-looks R c) m (tag a w d) (element-targets R a c) reaches s t (omega (arith, kinds R, looks-≤ R d c says)))
+      (put-judged (suc n) (element-looks R c) m (tag a w d) (element-targets R a c) reaches s t
+      (omega (arith, kinds R, looks-≤ R d c says)))
   tag-judged n a w d l h (two-at i) t = highest-later t
 
   judged : {n : ℕ} {l : List Element} → Forest n l → Judged n l (run R (map item l))

@@ -11,11 +11,13 @@ use borrow.Author.Tests.{leb-true}
 use Rattle.model.specs.Answers.{Checked, passes, refuses, _>>_, require}
 use Rattle.model.specs.Tree.{Document}
 use Rattle.model.specs.Bytes.{class-of}
-use Rattle.model.specs.Text.{State, start, to, after, move, move-at, does, moved, scan, state-at, refusal-2, refusal-3, refusal-4, refusal-5, refusal-6, refusal-7, number-at, first-refused, form-of}
+use Rattle.model.specs.Text.{State, start, to, after, move, move-at, does, moved, scan, state-at, refusal-2, refusal-3, refusal-4}
+use Rattle.model.specs.Text.{refusal-5, refusal-6, refusal-7, number-at, first-refused, form-of}
 use Rattle.model.proofs.CheckLaws.{required}
 
 -- a place at which nothing is refused is gone on from; at any other the number refuses it
-then-left : (n i : ℕ) (r : Checked (Unit {0})) (d : Document) (next : Checked Document) → next ≡ (r >> passes d) → (b : Bool) → cond b next (refuses n i) ≡ (cond b r (refuses n i) >> passes d)
+then-left : (n i : ℕ) (r : Checked (Unit {0})) (d : Document) (next : Checked Document) → next ≡ (r >> passes d) → (b : Bool) → cond b next
+    (refuses n i) ≡ (cond b r (refuses n i) >> passes d)
 unfolding _>>_
 then-left n i r d next e true = e
 then-left n i r d next e false = refl
@@ -42,7 +44,9 @@ module _ (list s : List ℕ) where
 
   scan-step : (st : State) (i : ℕ) → i < length s
       → scan list st i (drop i s)
-      ≡ cond (eqb (number-at list st (drop i s)) 0) (scan list (moved list st i (drop i s) (move-at st (drop i s))) (suc i) (drop (suc i) s)) (refuses (number-at list st (drop i s)) i)
+      ≡ cond (eqb (number-at list st (drop i s)) 0)
+      (scan list (moved list st i (drop i s) (move-at st (drop i s))) (suc i) (drop (suc i) s))
+      (refuses (number-at list st (drop i s)) i)
   unfolding scan
   scan-step st i h = rw (drop-cons s i 0 h)
 
@@ -50,18 +54,22 @@ module _ (list s : List ℕ) where
   unfolding first-refused number content scan state-at last-place
   agree zero i e =
       let h : i ≡ length s = omega arith in
-      rw (drop-of-length-le s {i = i} (omega arith), end-number list (state-at list s i)) (at-end (state-at list s i .content) i (does (to (state-at list s i .place)) (to after)))
+      rw (drop-of-length-le s {i = i} (omega arith), end-number list (state-at list s i))
+      (at-end (state-at list s i .content) i (does (to (state-at list s i .place)) (to after)))
       ∙ ap (λ (n : ℕ). first-refused number 1 i >> passes (state-at list s n .content)) h
   agree (suc k) i e =
       scan-step (state-at list s i) i (omega arith)
-      ∙ then-left _ i (first-refused number (suc k) (suc i)) content _ (agree k (suc i) (omega arith)) (eqb (number-at list (state-at list s i) (drop i s)) 0)
+      ∙ then-left _ i (first-refused number (suc k) (suc i)) content _ (agree k (suc i) (omega arith))
+      (eqb (number-at list (state-at list s i) (drop i s)) 0)
 
   -- 1, or the one pass
   pub scan-is : form-of list s ≡ cond (leb (length s) 65535) (scan list start 0 s) (refuses 1 65535)
   unfolding form-of require _>>_ number content state-at
   scan-is = go (leb (length s) 65535) (agree (length s) 0 (omega arith))
     where
-      go : (b : Bool) → scan list start 0 s ≡ (first-refused number (suc (length s)) 0 >> passes content) → (require b 1 65535 >> (first-refused number (suc (length s)) 0 >> passes content)) ≡ cond b (scan list start 0 s) (refuses 1 65535)
+      go : (b : Bool) → scan list start 0 s ≡ (first-refused number (suc (length s)) 0 >> passes content) →
+          (require b 1 65535 >> (first-refused number (suc (length s)) 0 >> passes content)) ≡ cond b (scan list start 0 s)
+          (refuses 1 65535)
       go true e = sym e
       go false e = refl
 

@@ -65,7 +65,8 @@ mask-bits : (k n : ℕ) (f : ℕ → Bool) → n < 2 ^ k → ((i : ℕ) → i < 
 unfolding mask
 mask-bits zero n f h e = omega arith
 mask-bits (suc k) n f h e =
-    let rest : mask k (λ i. f (suc i)) ≡ n / 2 = mask-bits k (n / 2) (λ i. f (suc i)) (omega (arith, pow-suc 2 k)) (λ i l. e (suc i) (omega arith) ∙ bit-suc n i) in
+    let rest : mask k (λ i. f (suc i)) ≡ n / 2 = mask-bits k (n / 2) (λ i. f (suc i)) (omega (arith, pow-suc 2 k))
+    (λ i l. e (suc i) (omega arith) ∙ bit-suc n i) in
     let first : cond (f 0) 1 0 ≡ n % 2 = ap (λ (b : Bool). cond b 1 0) (e 0 (omega arith) ∙ bit-zero n) ∙ bit-digit n in
     omega arith
 
@@ -78,7 +79,8 @@ unfolding members
 
 members-bit : (k n i : ℕ) → i ∈ members k n → Yes (bit n i)
 unfolding members
-members-bit k n i m = let (j, l, t) = each-∈ (λ j. only (bit n j) j) (numbers k) m in ap (bit n) (only-eq (bit n j) j t) ∙ only-test (bit n j) j t
+members-bit k n i m = let (j, l, t) = each-∈ (λ j. only (bit n j) j) (numbers k) m in ap (bit n) (only-eq (bit n j) j t) ∙ only-test
+    (bit n j) j t
 
 pub members-set : (k n : ℕ) → SetBelow k (members k n)
 unfolding members

@@ -13,10 +13,17 @@ use lib.Seq.{take-all}
 use borrow.Author.Tests as tests
 use Rattle.model.specs.Lists.{_∈_, from, numbers, SetBelow}
 use Rattle.model.specs.Answers.{passes, refuses}
-use Rattle.model.specs.Sheet.{Arc, Coefficient, Step, at-most, remainder, not-step, and-step, or-step, Rule, one, two, three, Sheet, W, signed-word, arc-word, order-words, marks, sum-words, step-words, count-words, rule-words, sheet-words, small, signed-32, ArcInRange, OrderInRange, SumInRange, StepInRange, StepsInRange, CountInRange, RuleInRange, InRange, Got, got, bad, below, arc-of, arc-ok, arc, order, signed, coefficient, sum, at-most-step, remainder-step, one-earlier, two-earlier, step, steps, target, text-rule, tag-rule, order-rule, count-rule, order-count-rule, rule, sheet, ended, sheet-of}
+use Rattle.model.specs.Sheet.{Arc, Coefficient, Step, at-most, remainder, not-step, and-step, or-step, Rule, one, two, three, Sheet}
+use Rattle.model.specs.Sheet.{W, signed-word, arc-word, order-words, marks, sum-words, step-words, count-words, rule-words}
+use Rattle.model.specs.Sheet.{sheet-words, small, signed-32, ArcInRange, OrderInRange, SumInRange, StepInRange, StepsInRange}
+use Rattle.model.specs.Sheet.{CountInRange, RuleInRange, InRange, Got, got, bad, below, arc-of, arc-ok, arc, order, signed}
+use Rattle.model.specs.Sheet.{coefficient, sum, at-most-step, remainder-step, one-earlier, two-earlier, step, steps, target}
+use Rattle.model.specs.Sheet.{text-rule, tag-rule, order-rule, count-rule, order-count-rule, rule, sheet, ended, sheet-of}
 use Rattle.model.proofs.Tests.{Yes, Told, yea, nay, told, and-yes, and-left, and-right, same, eqb-yes, between-inv}
 use Rattle.model.specs.Spans.{WordsAt}
-use Rattle.model.proofs.Spans.{word-next, whole, whole-inv, Reads, Makes, as-made, reads-by, word-reads, below-reads, between-reads, then-makes, given, Along, done, also, all-reads, one-more, repeated, singly, at-key, no-row, row, one-of-reads}
+use Rattle.model.proofs.Spans.{word-next, whole, whole-inv, Reads, Makes, as-made, reads-by, word-reads, below-reads, between-reads}
+use Rattle.model.proofs.Spans.{then-makes, given, Along, done, also, all-reads, one-more, repeated, singly, at-key, no-row, row}
+use Rattle.model.proofs.Spans.{one-of-reads}
 use Rattle.model.proofs.SetWords.{set-reads}
 
 -- what two tests in one say
@@ -59,7 +66,8 @@ arc-reads p m hp hm =
 pub order-reads : (p : ℕ) → p ≤ 64 → Reads (order p) order-words (OrderInRange p)
 unfolding order order-words
 order-reads p hp =
-    reads-by (then-makes (between-reads 1 64) (λ m (_, hm). then-makes (set-reads m) (λ accepting _. then-makes (between-reads 0 1024) (λ n _.
+    reads-by (then-makes (between-reads 1 64)
+    (λ m (_, hm). then-makes (set-reads m) (λ accepting _. then-makes (between-reads 0 1024) (λ n _.
     given (singly arc-word (repeated (arc-reads p m hp hm) n)) (λ arcs. record { positions = m; accepting = accepting; arcs = arcs })))))
     (λ (m, (accepting, (n, arcs))) ((lo, hi), (set, ((_, few), (e, h)))).
     (record { some-positions = lo; few-positions = hi; accepting = set; few-arcs = omega arith; arcs = h }, rw e))
@@ -106,8 +114,12 @@ coefficient-reads q =
     let (_, e) = signed-there w (tests.ltb-true w W l) in
     ((refl, s), rw e))
     (λ c (eq, s).
-    let (l, e) = signed-back (c .times) (small-signed (c .times) s) in
-    (signed-word (c .times), and-yes (tests.lt-ltb (signed-word (c .times)) W l) (rw e s), (λ i. record { state = sym eq i; times = e i }), refl))
+    let (l, e) = signed-back (c .times) (small-signed (c .times) s) in (
+      signed-word (c .times),
+      and-yes (tests.lt-ltb (signed-word (c .times)) W l) (rw e s),
+      (λ i. record { state = sym eq i; times = e i }),
+      refl,
+    ))
 
 pub sum-reads : (p : ℕ) → Reads (sum p) (sum-words p) (SumInRange p)
 unfolding sum sum-words
@@ -116,7 +128,8 @@ sum-reads p =
     (λ (marked, cs) (set, i). let (e, h) = apart i in (record { marked = rw e set; coefficients = h }, rw e))
     (λ cs h. ((marks cs, cs), (h .marked, along cs (h .coefficients)), refl, refl))
   where
-    apart : {l : List ℕ} {cs : List Coefficient} → Along CoefficientInRange l cs → (marks cs ≡ l) × ((c : Coefficient) → c ∈ cs → Yes (small (c .times)))
+    apart : {l : List ℕ} {cs : List Coefficient} → Along CoefficientInRange l cs → (marks cs ≡ l) ×
+        ((c : Coefficient) → c ∈ cs → Yes (small (c .times)))
     apart done = (refl, λ c m. absurd (List·Memᴰ·not-nil m))
     apart (also (e, s) is) = let (es, k) = apart is in (ap₂ {C = List ℕ} _∷_ e es, one-more s k)
 
@@ -127,7 +140,8 @@ sum-reads p =
 -- ---- count parts
 
 -- the five kinds of steps
-at-most-makes : (p : ℕ) → Makes (at-most-step p) (λ (cs, w). at-most cs (signed w)) (λ (cs, w). sum-words p cs ++ (w ∷ [])) (λ (cs, w). SumInRange p cs × (w < W))
+at-most-makes : (p : ℕ) → Makes (at-most-step p) (λ (cs, w). at-most cs (signed w)) (λ (cs, w). sum-words p cs ++ (w ∷ []))
+    (λ (cs, w). SumInRange p cs × (w < W))
 unfolding at-most-step
 at-most-makes p = then-makes (sum-reads p) (λ cs _. given (below-reads W) (λ w. at-most cs (signed w)))
 
@@ -150,7 +164,8 @@ unfolding step step-words
 step-back p i (at-most cs z) (h, y) s a b k =
     let (l, e) = signed-back z y in
     at-key _ k ∙ at-most-makes p .backwards (cs, signed-word z) (h, l) (word-next k) ∙ ap (λ (u : ℤ). got (at-most cs u) b) e
-step-back p i (remainder cs m r) (h, lo, hi, l) s a b k = at-key _ k ∙ remainder-makes p .backwards (cs, (m, r)) (h, ((lo, hi), l)) (word-next k)
+step-back p i (remainder cs m r) (h, lo, hi, l) s a b k = at-key _ k ∙ remainder-makes p .backwards (cs, (m, r)) (h, ((lo, hi), l))
+    (word-next k)
 step-back p i (not-step j) h s a b k = at-key _ k ∙ one-makes not-step i .backwards j h (word-next k)
 step-back p i (and-step j l) h s a b k = at-key _ k ∙ two-makes and-step i .backwards (j, l) h (word-next k)
 step-back p i (or-step j l) h s a b k = at-key _ k ∙ two-makes or-step i .backwards (j, l) h (word-next k)
@@ -193,32 +208,38 @@ text-makes : (p : ℕ) → Makes (text-rule p) (λ (k, q). one k q) (λ (k, q). 
 unfolding text-rule
 text-makes p = then-makes (between-reads 1 2) (λ k _. target-makes p (one k))
 
-tag-makes : (p g : ℕ) → Makes (tag-rule p g) (λ (a, (c, q)). two a c q) (λ (a, (c, q)). a ∷ c ∷ q ∷ []) (λ (a, (c, q)). ((1 ≤ a) × (a ≤ g)) × ((c < p) × (q < p)))
+tag-makes : (p g : ℕ) → Makes (tag-rule p g) (λ (a, (c, q)). two a c q) (λ (a, (c, q)). a ∷ c ∷ q ∷ [])
+    (λ (a, (c, q)). ((1 ≤ a) × (a ≤ g)) × ((c < p) × (q < p)))
 unfolding tag-rule
 tag-makes p g = then-makes (between-reads 1 g) (λ a _. then-makes (below-reads p) (λ c _. target-makes p (two a c)))
 
-order-makes : (p : ℕ) → p ≤ 64 → Makes (order-rule p) (λ (o, q). three (some o) none q) (λ (o, q). order-words o ++ (q ∷ [])) (λ (o, q). OrderInRange p o × (q < p))
+order-makes : (p : ℕ) → p ≤ 64 → Makes (order-rule p) (λ (o, q). three (some o) none q) (λ (o, q). order-words o ++ (q ∷ []))
+    (λ (o, q). OrderInRange p o × (q < p))
 unfolding order-rule
 order-makes p hp = then-makes (order-reads p hp) (λ o _. target-makes p (three (some o) none))
 
-count-makes : (p : ℕ) → Makes (count-rule p) (λ (ss, q). three none (some ss) q) (λ (ss, q). count-words p ss ++ (q ∷ [])) (λ (ss, q). CountInRange p ss × (q < p))
+count-makes : (p : ℕ) → Makes (count-rule p) (λ (ss, q). three none (some ss) q) (λ (ss, q). count-words p ss ++ (q ∷ []))
+    (λ (ss, q). CountInRange p ss × (q < p))
 unfolding count-rule
 count-makes p = then-makes (steps-reads p) (λ ss _. target-makes p (three none (some ss)))
 
 both-makes : (p : ℕ) → p ≤ 64
-    → Makes (order-count-rule p) (λ (o, (ss, q)). three (some o) (some ss) q) (λ (o, (ss, q)). order-words o ++ (count-words p ss ++ (q ∷ [])))
+    → Makes (order-count-rule p) (λ (o, (ss, q)). three (some o) (some ss) q)
+    (λ (o, (ss, q)). order-words o ++ (count-words p ss ++ (q ∷ [])))
     (λ (o, (ss, q)). OrderInRange p o × (CountInRange p ss × (q < p)))
 unfolding order-count-rule
 both-makes p hp = then-makes (order-reads p hp) (λ o _. then-makes (steps-reads p) (λ ss _. target-makes p (three (some o) (some ss))))
 
-rule-back : (p g : ℕ) → p ≤ 64 → (x : Rule) → RuleInRange p g x → (s : List ℕ) (a b : ℕ) → WordsAt s a b (rule-words p x) → rule p g s a ≡ got x b
+rule-back : (p g : ℕ) → p ≤ 64 → (x : Rule) → RuleInRange p g x → (s : List ℕ) (a b : ℕ) → WordsAt s a b
+    (rule-words p x) → rule p g s a ≡ got x b
 unfolding rule rule-words
 rule-back p g hp (one k q) (lo, hi, l) s a b w = at-key _ w ∙ text-makes p .backwards (k, q) ((lo, hi), l) (word-next w)
 rule-back p g hp (two t c q) (lo, hi, h, l) s a b w = at-key _ w ∙ tag-makes p g .backwards (t, (c, q)) ((lo, hi), (h, l)) (word-next w)
 rule-back p g hp (three none none q) (_, _, l) s a b w = at-key _ w ∙ target-makes p (three none none) .backwards q l (word-next w)
 rule-back p g hp (three (some o) none q) (h, _, l) s a b w = at-key _ w ∙ order-makes p hp .backwards (o, q) (h, l) (word-next w)
 rule-back p g hp (three none (some ss) q) (_, h, l) s a b w = at-key _ w ∙ count-makes p .backwards (ss, q) (h, l) (word-next w)
-rule-back p g hp (three (some o) (some ss) q) (h, k, l) s a b w = at-key _ w ∙ both-makes p hp .backwards (o, (ss, q)) (h, (k, l)) (word-next w)
+rule-back p g hp (three (some o) (some ss) q) (h, k, l) s a b w = at-key _ w ∙ both-makes p hp .backwards (o, (ss, q)) (h, (k, l))
+    (word-next w)
 
 pub rule-reads : (p g : ℕ) → p ≤ 64 → Reads (rule p g) (rule-words p) (RuleInRange p g)
 unfolding rule rule-words
@@ -244,7 +265,8 @@ Ranges s =
 sheet-reads : Reads sheet sheet-words Ranges
 unfolding sheet sheet-words
 sheet-reads =
-    reads-by (then-makes (between-reads 1 1) (λ edition _. then-makes (between-reads 1 64) (λ p (_, hp). then-makes (set-reads p) (λ final _.
+    reads-by (then-makes (between-reads 1 1)
+    (λ edition _. then-makes (between-reads 1 64) (λ p (_, hp). then-makes (set-reads p) (λ final _.
     then-makes (between-reads 1 64) (λ g _. then-makes (between-reads 0 1024) (λ n _.
     given (repeated (rule-reads p g hp) n) (λ rs. record { states = p; final = final; tags = g; rules = rs })))))))
     (λ (edition, (p, (final, (g, (n, rs))))) ((e₁, e₂), ((p₁, p₂), (set, ((g₁, g₂), ((_, few), (en, h)))))).
@@ -274,7 +296,17 @@ sheet-passes ws s = (
       let all : take 16384 ws ≡ sheet-words s = whole-inv (omega (arith, length-take 16384 ws)) k in
       let short : length ws ≤ 16384 = omega (arith, k .ends, ap length all, length-take 16384 ws) in (
         sym (take-all 16384 ws short) ∙ all,
-        record { some-states = p₁; few-states = p₂; final = set; some-tags = g₁; few-tags = g₂; few-rules = few; rules = h; few-words = omega (arith, k .ends) },
+        record {
+          some-states = p₁;
+          few-states = p₂;
+          final = set;
+          some-tags = g₁;
+          few-tags = g₂;
+          few-rules = few;
+          rules = h;
+          few-words =
+              omega (arith, k .ends);
+        },
       ),
   λ (e, h).
       let u = sheet-words s in

@@ -26,13 +26,18 @@ span-append {s} {a} {b} {c} {u} {v} x y = record {
 
 module _ {s : List ℕ} {a c : ℕ} (u v : List ℕ) (x : WordsAt s a c (u ++ v)) where
   later : drop (a + length u) s ≡ v ++ drop c s
-  later = sym (drop-drop (length u) a s) ∙ ap (drop (length u)) (x .stands ∙ append-assoc u v (drop c s)) ∙ drop-at u (v ++ drop c s) (length u) refl
+  later = sym (drop-drop (length u) a s) ∙ ap (drop (length u)) (x .stands ∙ append-assoc u v (drop c s)) ∙ drop-at u (v ++ drop c s)
+      (length u) refl
 
   pub span-left : WordsAt s a (a + length u) u
   span-left = record { stands = x .stands ∙ append-assoc u v (drop c s) ∙ ap (λ (l : List ℕ). u ++ l) (sym later); ends = refl }
 
   pub span-right : WordsAt s (a + length u) c v
-  span-right = record { stands = later; ends = x .ends ∙ ap (λ (n : ℕ). a + n) (length-append u v) ∙ sym (add-assoc a (length u) (length v)) }
+  span-right = record {
+    stands = later;
+    ends = x .ends ∙ ap (λ (n : ℕ). a + n)
+        (length-append u v) ∙ sym (add-assoc a (length u) (length v));
+  }
 
 -- one word
 pub span-word : {s : List ℕ} {a : ℕ} → a < length s → WordsAt s a (a + 1) (getD s a 0 ∷ [])
@@ -53,7 +58,11 @@ module _ {s : List ℕ} {a b x : ℕ} {ws : List ℕ} (p : WordsAt s a b (x ∷ 
 
 -- a list stands whole in itself, and what stands up to the end of a list is all of it
 pub whole : (s : List ℕ) → WordsAt s 0 (length s) s
-whole s = record { stands = sym (append-nil s) ∙ ap (λ (l : List ℕ). s ++ l) (sym (drop-of-length-le s {i = length s} (omega arith))); ends = omega arith }
+whole s = record {
+  stands = sym (append-nil s) ∙ ap (λ (l : List ℕ). s ++ l)
+      (sym (drop-of-length-le s {i = length s} (omega arith)));
+  ends = omega arith;
+}
 
 pub whole-inv : {s ws : List ℕ} {b : ℕ} → length s ≤ b → WordsAt s 0 b ws → s ≡ ws
 whole-inv {s} {ws} {b} h p = p .stands ∙ ap (λ (l : List ℕ). ws ++ l) (drop-of-length-le s {i = b} h) ∙ append-nil ws
@@ -77,7 +86,8 @@ as-made h = record {
   backwards = λ x i p. h .backwards i p;
 }
 
-pub reads-by : {A X : Type 0} {r : Reader A} {f : X → A} {words : X → List ℕ} {In : X → Type 0} {words′ : A → List ℕ} {In′ : A → Type 0} → Makes r f words In
+pub reads-by : {A X : Type 0} {r : Reader A} {f : X → A} {words : X → List ℕ} {In : X → Type 0} {words′ : A → List ℕ} {In′ : A → Type 0} →
+    Makes r f words In
     → ((x : X) → In x → In′ (f x) × (words x ≡ words′ (f x)))
     → ((y : A) → In′ y → (x : X) × In x × (f x ≡ y) × (words x ≡ words′ y))
     → Reads r words′ In′
@@ -121,20 +131,24 @@ pub below-reads : (n : ℕ) → Reads (word (below n)) (λ x. x ∷ []) (λ x. x
 below-reads n = reads-by (as-made (word-reads (below n))) (λ x y. (tests.ltb-true x n y, refl)) (λ x h. (x, tests.lt-ltb x n h, refl, refl))
 
 pub between-reads : (m n : ℕ) → Reads (word (between m n)) (λ x. x ∷ []) (λ x. (m ≤ x) × (x ≤ n))
-between-reads m n = reads-by (as-made (word-reads (between m n))) (λ x y. (between-inv m n x y, refl)) (λ x (h, k). (x, between-yes m n x h k, refl, refl))
+between-reads m n = reads-by (as-made (word-reads (between m n))) (λ x y. (between-inv m n x y, refl))
+    (λ x (h, k). (x, between-yes m n x h k, refl, refl))
 
 -- ---- one reader after another
 
-then-inv : {A B : Type 0} (s : List ℕ) (g : Got A) (f : A → Reader B) {y : B} {b : ℕ} → then s g f ≡ got y b → (x : A) × (n : ℕ) × (g ≡ got x n) × (f x s n ≡ got y b)
+then-inv : {A B : Type 0} (s : List ℕ) (g : Got A) (f : A → Reader B) {y : B} {b : ℕ} → then s g f ≡ got y b → (x : A) × (n : ℕ) ×
+    (g ≡ got x n) × (f x s n ≡ got y b)
 unfolding then
 then-inv s (got x n) f e = (x, n, refl, e)
 then-inv s (bad k) f e = not-got e
 
 module _ {A B : Type 0} {r : Reader A} {words : A → List ℕ} {In : A → Type 0} (h : Reads r words In) where
   -- the rest is read by a reader that the first value chooses
-  pub then-makes : {X : A → Type 0} {f : A → Reader B} {g : (x : A) → X x → B} {words′ : (x : A) → X x → List ℕ} {In′ : (x : A) → X x → Type 0}
+  pub then-makes : {X : A → Type 0} {f : A → Reader B} {g : (x : A) → X x → B} {words′ : (x : A) → X x → List ℕ}
+      {In′ : (x : A) → X x → Type 0}
       → ((x : A) → In x → Makes (f x) (g x) (words′ x) (In′ x))
-      → Makes {X = (x : A) × X x} (r >>= f) (λ t. g (t .0) (t .1)) (λ t. words (t .0) ++ words′ (t .0) (t .1)) (λ t. In (t .0) × In′ (t .0) (t .1))
+      → Makes {X = (x : A) × X x} (r >>= f) (λ t. g (t .0) (t .1)) (λ t. words (t .0) ++ words′ (t .0) (t .1))
+      (λ t. In (t .0) × In′ (t .0) (t .1))
   unfolding then
   then-makes {f = f} {words′ = words′} k = record {
     forwards = λ {s} {a} e.
@@ -177,7 +191,8 @@ pub data Along {A B : Type 0} (In : B → A → Type 0) : List B → List A → 
   done : Along In [] []
   also : {q : B} {l : List B} {x : A} {xs : List A} → In q x → Along In l xs → Along In (q ∷ l) (x ∷ xs)
 
-pub all-reads : {A B : Type 0} {r : B → Reader A} {words : A → List ℕ} {In : B → A → Type 0} → ((q : B) → Reads (r q) words (In q)) → (l : List B)
+pub all-reads : {A B : Type 0} {r : B → Reader A} {words : A → List ℕ} {In : B → A → Type 0} → ((q : B) → Reads (r q) words (In q)) →
+    (l : List B)
     → Reads (all r l) (flatMap words) (Along In l)
 unfolding all flatMap
 all-reads {A} {words = words} {In = In} h [] = reads-by (give-makes []) (λ u i. (done, refl)) back
@@ -188,7 +203,8 @@ all-reads {A} {words = words} {In = In} h (q ∷ l) =
     reads-by (then-makes (h q) (λ x _. given (all-reads h l) (λ xs. x ∷ xs))) (λ (x, xs) (i, is). (also i is, refl)) back
   where
     back : (xs : List A) → Along In (q ∷ l) xs
-        → (t : A × List A) × (In q (t .0) × Along In l (t .1)) × (t .0 ∷ t .1 ≡ xs) × (words (t .0) ++ flatMap words (t .1) ≡ flatMap words xs)
+        → (t : A × List A) × (In q (t .0) × Along In l (t .1)) × (t .0 ∷ t .1 ≡ xs) ×
+        (words (t .0) ++ flatMap words (t .1) ≡ flatMap words xs)
     back ys (also {x = x} {xs = xs} i is) = ((x, xs), (i, is), refl, refl)
 
 -- what holds of one element and of all others
@@ -215,7 +231,8 @@ repeated {A} {In = In} h n =
     along (q ∷ l) (x ∷ xs) e i = also (i x (List·Memᴰ·head refl)) (along l xs (omega arith) (λ y m. i y (List·Memᴰ·tail m)))
 
 -- parts of one word each
-pub singly : {A : Type 0} {r : Reader (List A)} {In : List A → Type 0} (f : A → ℕ) → Reads r (flatMap (λ x. f x ∷ [])) In → Reads r (map f) In
+pub singly : {A : Type 0} {r : Reader (List A)} {In : List A → Type 0} (f : A → ℕ) → Reads r (flatMap (λ x. f x ∷ [])) In → Reads r
+    (map f) In
 unfolding flatMap
 singly {A} f h = reads-by (as-made h) (λ l i. (i, same-words l)) (λ l i. (l, i, refl, same-words l))
   where
@@ -229,30 +246,36 @@ abbrev chosen : {A : Type 0} → ℕ → List (ℕ × Reader A) → Reader A
 chosen k [] s a = bad a
 chosen k (c ∷ cs) s a = cond (eqb k (c .0)) ((c .1) s (a + 1)) (chosen k cs s a)
 
-pub at-key : {A : Type 0} (cs : List (ℕ × Reader A)) {s : List ℕ} {a b k : ℕ} {ws : List ℕ} → WordsAt s a b (k ∷ ws) → one-of cs s a ≡ chosen k cs s a
+pub at-key : {A : Type 0} (cs : List (ℕ × Reader A)) {s : List ℕ} {a b k : ℕ} {ws : List ℕ} → WordsAt s a b
+    (k ∷ ws) → one-of cs s a ≡ chosen k cs s a
 unfolding one-of
 at-key [] p = refl
-at-key (c ∷ cs) {s} {a} {k = k} p = rw (tests.lt-ltb a (length s) (word-there p), word-here p) (ap (λ g. cond (eqb k (c .0)) ((c .1) s (a + 1)) g) (at-key cs p))
+at-key (c ∷ cs) {s} {a} {k = k} p = rw (tests.lt-ltb a (length s) (word-there p), word-here p)
+    (ap (λ g. cond (eqb k (c .0)) ((c .1) s (a + 1)) g) (at-key cs p))
 
 -- a table: each of its readers makes parts in range, whose words are its key and the fields' words
 pub data Rows {A : Type 0} (words : A → List ℕ) (In : A → Type 0) : List (ℕ × Reader A) → Type 1 where
   no-row : Rows words In []
-  row : {X : Type 0} (k : ℕ) {r : Reader A} {f : X → A} {words′ : X → List ℕ} {In′ : X → Type 0} {cs : List (ℕ × Reader A)} → Makes r f words′ In′
+  row : {X : Type 0} (k : ℕ) {r : Reader A} {f : X → A} {words′ : X → List ℕ} {In′ : X → Type 0} {cs : List (ℕ × Reader A)} → Makes r f
+      words′ In′
       → ((x : X) → In′ x → In (f x) × (k ∷ words′ x ≡ words (f x))) → Rows words In cs → Rows words In ((k, r) ∷ cs)
 
-one-of-inv : {A : Type 0} {words : A → List ℕ} {In : A → Type 0} {cs : List (ℕ × Reader A)} → Rows words In cs → {s : List ℕ} {a b : ℕ} {y : A}
+one-of-inv : {A : Type 0} {words : A → List ℕ} {In : A → Type 0} {cs : List (ℕ × Reader A)} → Rows words In cs → {s : List ℕ} {a b : ℕ}
+    {y : A}
     → one-of cs s a ≡ got y b → In y × WordsAt s a b (words y)
 unfolding one-of
 one-of-inv no-row e = not-got e
 one-of-inv {words = words} {In = In} (row k {r} {cs = cs} h there rest) {s} {a} {b} {y} e =
     go (ltb a (length s)) refl (eqb (getD s a 0) k) refl (λ e. one-of-inv rest e) e
   where
-    go : (t : Bool) → ltb a (length s) ≡ t → (u : Bool) → eqb (getD s a 0) k ≡ u → (one-of cs s a ≡ got y b → In y × WordsAt s a b (words y))
+    go : (t : Bool) → ltb a (length s) ≡ t → (u : Bool) → eqb (getD s a 0) k ≡ u →
+        (one-of cs s a ≡ got y b → In y × WordsAt s a b (words y))
         → cond (t && u) (r s (a + 1)) (one-of cs s a) ≡ got y b → In y × WordsAt s a b (words y)
     go true l true j other e =
         let (x, i, ey, p) = h .forwards e in
         let (i′, ew) = there x i in
-        let key : WordsAt s a (a + 1) (k ∷ []) = rw (same (getD s a 0) k j) at (span-word {s = s} {a = a} (tests.ltb-true a (length s) l)) in
+        let key : WordsAt s a (a + 1) (k ∷ []) = rw (same (getD s a 0) k j)
+        at (span-word {s = s} {a = a} (tests.ltb-true a (length s) l)) in
         (rw ey at i′, rw (ew, ey) at (span-append key p))
     go true l false j other e = other e
     go false l u j other e = other e

@@ -102,7 +102,8 @@ ends-solid (b ∷ t) = go (text-ahead b t) (ends-solid t)
     go {u = c ∷ u} (longer h) s = s
 
 -- a text that begins with a byte which is not white is trimmed
-pub text-trimmed : (b : ℕ) (t : List ℕ) → Yes (text-byte b) → Yes (solid-byte b) → Yes (every text-byte (text-at t)) → Yes (trimmed-text (text-at (b ∷ t)))
+pub text-trimmed : (b : ℕ) (t : List ℕ) → Yes (text-byte b) → Yes (solid-byte b) → Yes (every text-byte (text-at t)) → Yes
+    (trimmed-text (text-at (b ∷ t)))
 unfolding trimmed-text every
 text-trimmed b t h k l = rw e (and-yes k (and-yes (rw e at (ends-solid (b ∷ t))) (and-yes h l)))
   where

@@ -10,10 +10,14 @@ use lib.Dec.{eqb, leb}
 use lib.ListN.{length, getD, drop, length-append, drop-of-length-le}
 use lib.Seq.{drop-cons, getD-drop, drop-drop, drop-at}
 use Rattle.model.specs.Answers.{passes, refuses, _>>=_, _>>_, require}
-use Rattle.model.specs.Tree.{Span, Element, text, tag, Document, ε, _·_, size, sizeD, nodes, nodesD, node, words, wordsD, is-text, Keeps, KeepsD, Over, symbol-at, size-at, span-at, text-symbol, tag-symbol, Seen, at-end, a-text, an-element, breaks, look, children-by, children, tree-of}
+use Rattle.model.specs.Tree.{Span, Element, text, tag, Document, ε, _·_, size, sizeD, nodes, nodesD, node, words, wordsD, is-text}
+use Rattle.model.specs.Tree.{Keeps, KeepsD, Over, symbol-at, size-at, span-at, text-symbol, tag-symbol, Seen, at-end, a-text}
+use Rattle.model.specs.Tree.{an-element, breaks, look, children-by, children, tree-of}
 use Rattle.model.proofs.Tests.{Yes, never, and-yes, and-left, and-right, same, eqb-yes, between-yes, between-inv}
-use Rattle.model.proofs.CheckLaws.{refuses≢passes, passes-inj, bind-inv, required, RefusesBy, bind-refuses, require-refuses, refuses-by}
-use Rattle.model.proofs.TreeView.{text-symbol-is, tag-symbol-is, tag-no-text, View, ended, text-here, element-here, broken-here, view, look-end, look-text, look-element, Reading, children-seen}
+use Rattle.model.proofs.CheckLaws.{refuses≢passes, passes-inj, bind-inv, required, RefusesBy, bind-refuses, require-refuses}
+use Rattle.model.proofs.CheckLaws.{refuses-by}
+use Rattle.model.proofs.TreeView.{text-symbol-is, tag-symbol-is, tag-no-text, View, ended, text-here, element-here, broken-here}
+use Rattle.model.proofs.TreeView.{view, look-end, look-text, look-element, Reading, children-seen}
 
 -- ---- lengths
 
@@ -46,7 +50,8 @@ next-word : (t : List ℕ) (j k : ℕ) → j < length t → k ≡ suc j → drop
 next-word t j k h e = rw e (drop-cons t j 0 h)
 
 -- node i, and what comes after it
-node-at : (t : List ℕ) (i : ℕ) → 4 * (i + 1) ≤ length t → drop (4 * i) t ≡ node (symbol-at t i) (size-at t i) (span-at t i) ++ drop (4 * (i + 1)) t
+node-at : (t : List ℕ) (i : ℕ) → 4 * (i + 1) ≤ length t → drop (4 * i) t ≡ node (symbol-at t i) (size-at t i) (span-at t i) ++ drop
+    (4 * (i + 1)) t
 node-at t i h =
     next-word t (4 * i) (4 * i + 1) (omega arith) (omega arith)
     ∙ ap (λ (l : List ℕ). getD t (4 * i) 0 ∷ l) (next-word t (4 * i + 1) (4 * i + 2) (omega arith) (omega arith)
@@ -95,11 +100,18 @@ module _ (t : List ℕ) (g : ℕ) where
   text-stands {i = i} h b y z p st =
       let (u, v) = text-symbol-is (symbol-at t i) .0 y in
       let s : 64 + (symbol-at t i - 64) ≡ symbol-at t i = omega arith in
-      record { count = omega (arith, st .count); keeps = (rw p, (omega arith, omega arith), st .keeps); encoded = cc (node-at t i (omega arith), st .encoded) }
+      record {
+        count = omega (arith, st .count);
+        keeps = (rw p, (omega arith, omega arith), st .keeps);
+        encoded = cc
+            (node-at t i (omega arith), st .encoded);
+      }
 
-  element-stands : {levels i next end : ℕ} {after-text : Bool} {c d : Document} → next ≡ i + size-at t i → i < next → next ≤ end → 4 * end ≤ length t
+  element-stands : {levels i next end : ℕ} {after-text : Bool} {c d : Document} → next ≡ i + size-at t i → i < next → next ≤ end → 4 * end ≤
+      length t
       → Yes (tag-symbol g (symbol-at t i)) → 0 < levels
-      → Stands (levels - 1) (i + 1) next false c → Stands levels next end false d → Stands levels i end after-text (tag (symbol-at t i) (span-at t i) c · d)
+      → Stands (levels - 1) (i + 1) next false c → Stands levels next end false d → Stands levels i end after-text
+      (tag (symbol-at t i) (span-at t i) c · d)
   unfolding size words is-text
   element-stands {i = i} {next} {end} {after-text} {c} {d} n lt le b y l inside st =
       let (u, v) = tag-symbol-is g (symbol-at t i) .0 y in
@@ -124,7 +136,8 @@ module _ (t : List ℕ) (g : ℕ) where
       let (c, k, f) = bind-inv _ _ e in
       let (c′, k′, q) = bind-inv _ _ f in
       rw (← passes-inj q)
-      (element-stands is lt le b y l (r (levels - 1) (i + 1) n false c (omega arith) (omega arith) le k) (r levels n end false c′ lt le (omega arith) k′))
+      (element-stands is lt le b y l (r (levels - 1) (i + 1) n false c (omega arith) (omega arith) le k)
+      (r levels n end false c′ lt le (omega arith) k′))
   seen-stands rest levels i end after-text s d (broken-here _) a b r e = absurd (refuses≢passes e)
 
   stands : (steps levels i end : ℕ) (after-text : Bool) (d : Document) → end ≤ i + steps → i ≤ end → 4 * end ≤ length t
@@ -167,9 +180,11 @@ module _ (t : List ℕ) (g levels i end : ℕ) (after-text : Bool) (fits : end �
   read-text {k} m a b h p e =
       let y : Yes (text-symbol (symbol-at t i)) = rw (m .symbol-is) (text-symbol-is (64 + k) .1 (omega arith)) in
       let s : 64 + k - 64 ≡ k = omega arith in
-      children-seen t g levels i end after-text fits (look-text t g levels i end after-text h y (m .size-is) p) ∙ rw (e, m .symbol-is, s, m .span-is)
+      children-seen t g levels i end after-text fits
+      (look-text t g levels i end after-text h y (m .size-is) p) ∙ rw (e, m .symbol-is, s, m .span-is)
 
-  read-tag : {a : ℕ} {w : Span} {r : List ℕ} {c d : Document} → NodeIs t i a (suc (sizeD c)) w r → g ≤ 64 → 1 ≤ a → a ≤ g → 0 < levels → i + suc (sizeD c) ≤ end
+  read-tag : {a : ℕ} {w : Span} {r : List ℕ} {c d : Document} → NodeIs t i a
+      (suc (sizeD c)) w r → g ≤ 64 → 1 ≤ a → a ≤ g → 0 < levels → i + suc (sizeD c) ≤ end
       → read t g (levels - 1) (i + 1) (i + suc (sizeD c)) false ≡ passes c → read t g levels (i + suc (sizeD c)) end false ≡ passes d
       → read t g levels i end after-text ≡ passes (tag a w c · d)
   unfolding children-by _>>=_
@@ -190,7 +205,8 @@ module _ (t : List ℕ) (g : ℕ) (small : g ≤ 64) where
         → (after-text && is-text e) ≡ false → Keeps g levels e → i + size e ≤ end → end ≤ length t → drop (4 * i) t ≡ words e ++ r
         → read t g levels (i + size e) end (is-text e) ≡ passes d → read t g levels i end after-text ≡ passes (e · d)
     read-element (text k w) levels i end after-text r d apart keeps h fits at e =
-        read-text t g levels i end after-text fits (node-is t i (64 + k) 1 w r at) (keeps .0) (keeps .1) (omega arith) (sym (and-true after-text) ∙ apart) e
+        read-text t g levels i end after-text fits (node-is t i (64 + k) 1 w r at) (keeps .0) (keeps .1) (omega arith)
+        (sym (and-true after-text) ∙ apart) e
     read-element (tag a w c) levels i end after-text r d apart keeps h fits at e =
         let m = node-is t i a (suc (sizeD c)) w (wordsD c ++ r) at in
         read-tag t g levels i end after-text fits m small (keeps .0) (keeps .1) (keeps .2) h
@@ -217,7 +233,10 @@ count-tests n = (
 )
 
 root-tests : (g s z n : ℕ) → Yes (tag-symbol g s && eqb z n) ↔ Yes (tag-symbol g s) × (z ≡ n)
-root-tests g s z n = (λ y. (and-left (tag-symbol g s) (eqb z n) y, same z n (and-right (tag-symbol g s) (eqb z n) y)), λ h. and-yes (h .0) (eqb-yes (h .1)))
+root-tests g s z n = (
+  λ y. (and-left (tag-symbol g s) (eqb z n) y, same z n (and-right (tag-symbol g s) (eqb z n) y)),
+  λ h. and-yes (h .0) (eqb-yes (h .1)),
+)
 
 module _ (g : ℕ) (t : List ℕ) where
   -- node 0 with what stands from node 1 on
@@ -241,7 +260,8 @@ module _ (g : ℕ) (t : List ℕ) where
       let (d, p, q) = bind-inv _ _ h″ in
       let (r, a, b) = count-tests (length t) .0 x in
       let (s, z) = root-tests g (symbol-at t 0) (size-at t 0) (length t / 4) .0 y in
-      rw (← passes-inj q) (root-words (omega arith) a b s z (stands t g (length t) 31 1 (length t / 4) false d (omega arith) a (omega arith) p))
+      rw (← passes-inj q) (root-words (omega arith) a b s z
+      (stands t g (length t) 31 1 (length t / 4) false d (omega arith) a (omega arith) p))
 
   words-pass : g ≤ 64 → (e : Element) → t ≡ words e → Over g e → tree-of g t ≡ passes e
   unfolding tree-of is-text size words require _>>_ _>>=_
@@ -253,8 +273,10 @@ module _ (g : ℕ) (t : List ℕ) where
       let f = o .few in
       rw (
         count-tests (length t) .1 (omega arith),
-        root-tests g (symbol-at t 0) (size-at t 0) (length t / 4) .1 (rw (m .symbol-is) (tag-symbol-is g a .1 (k .0, k .1)), omega (arith, m .size-is)),
-        read-document t g small d 31 1 (length t / 4) false [] (k .3) (omega arith) (omega arith) (m .after-is ∙ sym (append-nil (wordsD d))),
+        root-tests g (symbol-at t 0) (size-at t 0) (length t / 4) .1
+            (rw (m .symbol-is) (tag-symbol-is g a .1 (k .0, k .1)), omega (arith, m .size-is)),
+        read-document t g small d 31 1 (length t / 4) false [] (k .3) (omega arith) (omega arith)
+            (m .after-is ∙ sym (append-nil (wordsD d))),
         m .symbol-is,
         m .span-is,
       )
@@ -265,7 +287,8 @@ tree-passes g small t e = (passed-words g t e, λ h. words-pass g t small e (h .
 
 -- two forms over g tags with the same words are one
 pub tree-unique : (g : ℕ) → g ≤ 64 → (e f : Element) → Over g e → Over g f → words e ≡ words f → e ≡ f
-tree-unique g small e f o p h = passes-inj (sym (tree-passes g small (words f) e .1 (sym h, o)) ∙ tree-passes g small (words f) f .1 (refl, p))
+tree-unique g small e f o p h = passes-inj
+    (sym (tree-passes g small (words f) e .1 (sym h, o)) ∙ tree-passes g small (words f) f .1 (refl, p))
 
 -- ---- refusals
 
@@ -288,4 +311,5 @@ children-refuse t g (suc steps) levels i end after-text =
 pub tree-refuses : (g : ℕ) (t : List ℕ) {n i : ℕ} → tree-of g t ≡ refuses n i → n ≡ 10
 unfolding tree-of
 tree-refuses g t h =
-    refuses-by (require-refuses _ 10 _ _ (require-refuses _ 10 _ _ (bind-refuses 10 _ _ (children-refuse t g (length t) 31 1 (length t / 4) false) (λ d. tt)))) h
+    refuses-by (require-refuses _ 10 _ _
+    (require-refuses _ 10 _ _ (bind-refuses 10 _ _ (children-refuse t g (length t) 31 1 (length t / 4) false) (λ d. tt)))) h

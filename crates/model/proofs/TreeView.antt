@@ -9,8 +9,10 @@ use borrow.Author.Tests as tests
 use lib.Dec.{eqb, leb, ltb}
 use lib.ListN.{length}
 use Rattle.model.specs.Answers.{Checked}
-use Rattle.model.specs.Tree.{Document, symbol-at, size-at, text-symbol, tag-symbol, Seen, at-end, a-text, an-element, breaks, look, children-by, children}
-use Rattle.model.proofs.Tests.{Yes, and-yes, and-left, and-right, or-left, or-right, or-cases, same, eqb-yes, eqb-false, Told, yea, nay, told, not-yes, yes-not, between-yes, between-inv}
+use Rattle.model.specs.Tree.{Document, symbol-at, size-at, text-symbol, tag-symbol, Seen, at-end, a-text, an-element, breaks, look}
+use Rattle.model.specs.Tree.{children-by, children}
+use Rattle.model.proofs.Tests.{Yes, and-yes, and-left, and-right, or-left, or-right, or-cases, same, eqb-yes, eqb-false, Told, yea}
+use Rattle.model.proofs.Tests.{nay, told, not-yes, yes-not, between-yes, between-inv}
 
 -- ---- tests
 
@@ -80,7 +82,8 @@ module _ (t : List ℕ) (g levels i end : ℕ) (after-text : Bool) where
           → (tag-symbol g (symbol-at t i) && (ltb 0 levels && (leb 1 (size-at t i) && leb (i + size-at t i) end))) ≡ d
           → View (cond a at-end (cond b (cond c a-text breaks) (cond d (an-element (i + size-at t i)) breaks)))
       go true b c d ha hb hc hd = ended (tests.leb-true end i ha)
-      go false true true d ha hb hc hd = let (z, p) = text-tests (size-at t i) after-text .0 hc in text-here (tests.leb-false end i ha) hb z p
+      go false true true d ha hb hc hd = let (z, p) = text-tests (size-at t i) after-text .0 hc in text-here
+          (tests.leb-false end i ha) hb z p
       go false true false d ha hb hc hd = broken-here (tests.leb-false end i ha)
       go false false c true ha hb hc hd =
           let (y, l, z, e) = element-tests g levels (symbol-at t i) (size-at t i) i end .0 hd in
@@ -92,14 +95,20 @@ module _ (t : List ℕ) (g levels i end : ℕ) (after-text : Bool) where
   unfolding look
   look-end h = rw (tests.le-leb end i h)
 
-  pub look-text : i < end → Yes (text-symbol (symbol-at t i)) → size-at t i ≡ 1 → after-text ≡ false → look t g levels i end after-text ≡ a-text
+  pub look-text : i < end → Yes (text-symbol (symbol-at t i)) → size-at t i ≡ 1 → after-text ≡ false → look t g levels i end after-text ≡
+      a-text
   unfolding look
   look-text h y z p = rw (tests.lt-leb end i h, y, text-tests (size-at t i) after-text .1 (z, p))
 
-  pub look-element : text-symbol (symbol-at t i) ≡ false → Yes (tag-symbol g (symbol-at t i)) → 0 < levels → 1 ≤ size-at t i → i + size-at t i ≤ end
+  pub look-element : text-symbol (symbol-at t i) ≡ false → Yes
+      (tag-symbol g (symbol-at t i)) → 0 < levels → 1 ≤ size-at t i → i + size-at t i ≤ end
       → look t g levels i end after-text ≡ an-element (i + size-at t i)
   unfolding look
-  look-element x y l z e = rw (tests.lt-leb end i (omega arith), x, element-tests g levels (symbol-at t i) (size-at t i) i end .1 (y, l, z, e))
+  look-element x y l z e = rw (
+    tests.lt-leb end i (omega arith),
+    x,
+    element-tests g levels (symbol-at t i) (size-at t i) i end .1 (y, l, z, e),
+  )
 
 -- ---- steps
 
@@ -137,10 +146,12 @@ module _ (t : List ℕ) (g : ℕ) where
 
 -- the children of a tree are read by what stands at each node
 pub children-step : (t : List ℕ) (g levels i end : ℕ) (after-text : Bool) → end ≤ length t
-    → children t g (length t) levels i end after-text ≡ children-by t (children t g (length t)) levels i end (look t g levels i end after-text)
+    → children t g (length t) levels i end after-text ≡ children-by t (children t g (length t)) levels i end
+    (look t g levels i end after-text)
 children-step t g levels i end after-text h = enough-steps t g (length t) levels i end after-text h
 
 -- the same where it is known what stands there
 pub children-seen : (t : List ℕ) (g levels i end : ℕ) (after-text : Bool) {s : Seen} → end ≤ length t → look t g levels i end after-text ≡ s
     → children t g (length t) levels i end after-text ≡ children-by t (children t g (length t)) levels i end s
-children-seen t g levels i end after-text h e = children-step t g levels i end after-text h ∙ ap (children-by t (children t g (length t)) levels i end) e
+children-seen t g levels i end after-text h e = children-step t g levels i end after-text h ∙
+    ap (children-by t (children t g (length t)) levels i end) e

@@ -35,7 +35,8 @@ entered-∈ set q a m =
 unfolding last-set next-set
 ∈-last arcs [] set i j m e = subst (λ (x : ℕ). x ∈ set) e m
 ∈-last arcs (q ∷ w) set i j m (a, s, l, r, rest) =
-    ∈-last arcs w (next-set arcs set q) (a .enters) j (∈-each (entered set q) s (∈-entered set q a r (subst (λ (x : ℕ). x ∈ set) (sym l) m))) rest
+    ∈-last arcs w (next-set arcs set q) (a .enters) j
+    (∈-each (entered set q) s (∈-entered set q a r (subst (λ (x : ℕ). x ∈ set) (sym l) m))) rest
 
 last-∈ : (arcs : List Arc) (w set : List ℕ) (j : ℕ) → j ∈ last-set arcs set w → (i : ℕ) × (i ∈ set) × Path-of arcs i w j
 unfolding last-set next-set
@@ -117,7 +118,8 @@ pub remainder-is : (z : ℤ) (m r : ℕ) → 0 < m → (remainder-of z m ≡ r) 
 remainder-is z m r h = (there, back)
   where
     there : remainder-of z m ≡ r → (r < m) × ((k : ℤ) × (z ≡ pos r +ℤ (k *ℤ pos m)))
-    there e = subst (λ (x : ℕ). (x < m) × ((k : ℤ) × (z ≡ pos x +ℤ (k *ℤ pos m)))) e (remainder-< z m h, (quotient z m, remainder-leaves z m h))
+    there e = subst (λ (x : ℕ). (x < m) × ((k : ℤ) × (z ≡ pos x +ℤ (k *ℤ pos m)))) e
+        (remainder-< z m h, (quotient z m, remainder-leaves z m h))
 
     back : (r < m) × ((k : ℤ) × (z ≡ pos r +ℤ (k *ℤ pos m))) → remainder-of z m ≡ r
     back (s, (k, e)) = ap (λ (y : ℤ). remainder-of y m) e ∙ remainder-alone k m r s

@@ -8,7 +8,8 @@ use Rattle.model.specs.Lists.{every}
 use Rattle.model.specs.Tree.{Element, Document, ε, _·_, sizeD, nodes, is-text, KeepsD}
 use Rattle.model.specs.Bytes.{letter-byte}
 use Rattle.model.specs.Names.{name-of}
-use Rattle.model.specs.Text.{Place, before, root-open, blank, in-text, tag-open, start-name, start-gap, start-slash, end-open, end-name, end-gap, after, Open, State, name-at, text-at, innermost}
+use Rattle.model.specs.Text.{Place, before, root-open, blank, in-text, tag-open, start-name, start-gap, start-slash, end-open}
+use Rattle.model.specs.Text.{end-name, end-gap, after, Open, State, name-at, text-at, innermost}
 use Rattle.model.specs.Written.{writtenD, text-byte}
 use Rattle.model.proofs.DocumentLaws.{ends-in-text, Good}
 use Rattle.model.proofs.Tests.{Yes}

@@ -5,7 +5,9 @@ use Prim.Native.Nat.{ℕ}
 use lib.Dec.{leb}
 use lib.ListN.{length, drop}
 use Rattle.model.specs.declared.Refusal.{Refusal}
-use Rattle.model.specs.declared.Refusal.the-variants.{LongText, ForbiddenByte, Syntax, UnknownName, OtherName, Depth, ManyNodes, NameList, Sheet, Tree, TextWords, TagCounts, JointLimit, ShortBuffer, TwoStates, LongForm}
+use Rattle.model.specs.declared.Refusal.the-variants.{LongText, ForbiddenByte, Syntax, UnknownName, OtherName, Depth, ManyNodes}
+use Rattle.model.specs.declared.Refusal.the-variants.{NameList, Sheet, Tree, TextWords, TagCounts, JointLimit, ShortBuffer, TwoStates}
+use Rattle.model.specs.declared.Refusal.the-variants.{LongForm}
 use Rattle.model.specs.declared.Answer.{Answer}
 use Rattle.model.specs.declared.Answer.the-variants as answer
 use Rattle.model.specs.declared.Judgement.{Judgement}

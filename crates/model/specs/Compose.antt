@@ -8,7 +8,8 @@ use lib.Dec.{eqb, leb}
 use lib.ListN.{length}
 use Rattle.model.specs.Lists.{has, every, only, numbers, grid}
 use Rattle.model.specs.Answers.{Checked, require, _>>_}
-use Rattle.model.specs.Sheet.{Sheet, Rule, one, two, three, Order, Arc, Coefficient, Step, at-most, remainder, not-step, and-step, or-step, sheet-words}
+use Rattle.model.specs.Sheet.{Sheet, Rule, one, two, three, Order, Arc, Coefficient, Step, at-most, remainder, not-step, and-step}
+use Rattle.model.specs.Sheet.{or-step, sheet-words}
 
 -- Swapping turns every final bit below p.
 unfoldable pub swapped : Sheet → Sheet

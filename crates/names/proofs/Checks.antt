@@ -34,7 +34,8 @@ module _ {list name : List ℕ} {k r : ℕ} (h : k ≤ length (lines list)) (f :
 
   number-is : eqb (number-from 0 name (take k (lines list))) 0 ≡ eqb r 0
   unfolding name-of
-  number-is = eqb-like (number-from 0 name (take k (lines list))) 0 r 0 unfound (λ z. unlisted z (ℕ-discrete (number-from 0 name (take k (lines list))) 0))
+  number-is = eqb-like (number-from 0 name (take k (lines list))) 0 r 0 unfound
+      (λ z. unlisted z (ℕ-discrete (number-from 0 name (take k (lines list))) 0))
     where
       few : length (take k (lines list)) ≡ k
       few = length-take-le k (lines list) h
@@ -44,7 +45,8 @@ module _ {list name : List ℕ} {k r : ℕ} (h : k ≤ length (lines list)) (f :
         where
           by : Dec (r ≡ 0) → r ≡ 0
           by (yes e) = e
-          by (no n) = absurd (number-some 0 name (take k (lines list)) (r - 1) (omega (arith, f .few, few)) (rw (first-lines (r - 1) (omega (arith, f .few))) (f .named n)) z)
+          by (no n) = absurd (number-some 0 name (take k (lines list)) (r - 1) (omega (arith, f .few, few))
+              (rw (first-lines (r - 1) (omega (arith, f .few))) (f .named n)) z)
 
       unlisted : r ≡ 0 → Dec (number-from 0 name (take k (lines list)) ≡ 0) → number-from 0 name (take k (lines list)) ≡ 0
       unlisted z (yes e) = e
@@ -55,11 +57,13 @@ module _ {list name : List ℕ} {k r : ℕ} (h : k ≤ length (lines list)) (f :
           absurd (f .none z (suc j) (omega arith) inside (rw (m, ← first-lines j inside) e))
 
 -- `name` is the name on line k
-module _ (list starts : List ℕ) (index : Indexed list starts) (k : ℕ) (h : k < line-count list) {name : List ℕ} (named : name ≡ name-by list starts (k + 1)) where
+module _ (list starts : List ℕ) (index : Indexed list starts) (k : ℕ) (h : k < line-count list) {name : List ℕ}
+    (named : name ≡ name-by list starts (k + 1)) where
   byte-after : getD (line list k) (length (line list k) - 1) 0 ≡ getD list (getD starts (k + 1) 0 - 1) 0
   byte-after =
       let c = indexed-cut list starts index k h in
-      ap (λ (l : List ℕ). getD l (length l - 1) 0) (sym (indexed-line list starts index k h)) ∙ part-last list (getD starts k 0) (getD starts (k + 1) 0) (c .after) (c .within)
+      ap (λ (l : List ℕ). getD l (length l - 1) 0) (sym (indexed-line list starts index k h)) ∙ part-last list (getD starts k 0)
+      (getD starts (k + 1) 0) (c .after) (c .within)
 
   pub own-name : name ≡ name-of list (k + 1)
   own-name = named ∙ name-is list starts index (k + 1) (omega arith) (omega arith)
@@ -127,7 +131,8 @@ said-none [] h = refl
 said-none (b ∷ s) h = absurd (omega arith)
 
 module _ (list starts : List ℕ) (index : Indexed list starts) (k : ℕ) (e : names-of list ≡ checked-from list k) where
-  pub said-bad : k < line-count list → good-line (lines list) k (line list k) ≡ false → said (Error (NameList (getD starts k 0))) ≡ names-said list
+  pub said-bad : k < line-count list → good-line (lines list) k (line list k) ≡ false → said
+      (Error (NameList (getD starts k 0))) ≡ names-said list
   unfolding said said-refusal names-said answer-of
   said-bad h b = rw (e, check-bad list k (omega arith) b, index .start k (omega arith))
 

@@ -44,8 +44,13 @@ module _ (list starts whole : List ℕ) (k at : ℕ) (b : Begins list k at) (e :
 pub indexed : (list before starts : List ℕ) → 65 ≤ length before → starts ≡ sets before 0 (line-starts list) → Indexed list starts
 indexed list before starts h e = record {
   start = λ k i.
-      let n : length (line-starts list) ≡ line-count list + 1 = length-map (numbers (line-count list + 1)) (start-of (lines list)) ∙ length-from (line-count list + 1) 0 in
-      rw (e, sets-eq (line-starts list) before 0 (omega arith), List·getD-append (line-starts list) (drop (0 + length (line-starts list)) before) 0 k (omega arith))
+      let n : length (line-starts list) ≡ line-count list + 1 = length-map (numbers (line-count list + 1))
+      (start-of (lines list)) ∙ length-from (line-count list + 1) 0 in
+      rw (
+        e,
+        sets-eq (line-starts list) before 0 (omega arith),
+        List·getD-append (line-starts list) (drop (0 + length (line-starts list)) before) 0 k (omega arith),
+      )
       (mapped-at (start-of (lines list)) (line-count list + 1) 0 k (omega arith) ∙ rw zero-add);
 }
 
@@ -66,7 +71,8 @@ pub tag-is : (a : ℕ) → 1 ≤ a → a ≤ 64 → no-tag a ≡ false
 tag-is a some few = rw (ne-eqb a 0 (λ z. omega arith), le-ltb 64 a few)
 
 module _ (list starts : List ℕ) (a : ℕ) where
-  pub name-there : no-tag a ≡ false → name-by list starts a ≡ bare (take (getD starts a 0 - getD starts (a - 1) 0) (drop (getD starts (a - 1) 0) list))
+  pub name-there : no-tag a ≡ false → name-by list starts a ≡ bare
+      (take (getD starts a 0 - getD starts (a - 1) 0) (drop (getD starts (a - 1) 0) list))
   unfolding name-by
   name-there e = rw e
 

@@ -35,7 +35,8 @@ lines-cons (b ∷ []) h = (1, omega arith, omega arith, go (eqb b 10))
 lines-cons (b ∷ (d ∷ s)) h = go (eqb b 10) (lines-cons (d ∷ s) (omega arith))
   where
     go : (t : Bool) → (n : ℕ) × (0 < n) × (n ≤ suc (length s)) × (lines (d ∷ s) ≡ take n (d ∷ s) ∷ lines (drop n (d ∷ s)))
-        → (n : ℕ) × (0 < n) × (n ≤ suc (suc (length s))) × (cond t ((b ∷ []) ∷ lines (d ∷ s)) (prepend b (lines (d ∷ s))) ≡ take n (b ∷ (d ∷ s)) ∷ lines (drop n (b ∷ (d ∷ s))))
+        → (n : ℕ) × (0 < n) × (n ≤ suc (suc (length s))) ×
+        (cond t ((b ∷ []) ∷ lines (d ∷ s)) (prepend b (lines (d ∷ s))) ≡ take n (b ∷ (d ∷ s)) ∷ lines (drop n (b ∷ (d ∷ s))))
     go true r = (1, omega arith, omega arith, refl)
     go false (n, p, q, e) = (suc n, omega arith, omega arith, prepend-to b e)
 
@@ -97,7 +98,8 @@ module _ (list : List ℕ) (k at : ℕ) (b : Begins list k at) where
 
   begins-cut : k < length (lines list) → Cut list at (start-of (lines list) (suc k))
   begins-cut h =
-      let e : line list k ≡ line (drop at list) 0 = sym (rw add-zero at (getD-drop k (lines list) 0 [])) ∙ ap (λ (ls : List (List ℕ)). getD ls 0 []) (b .rest) in
+      let e : line list k ≡ line (drop at list) 0 = sym (rw add-zero at (getD-drop k (lines list) 0 [])) ∙
+      ap (λ (ls : List (List ℕ)). getD ls 0 []) (b .rest) in
       line-cut list at (start-of (lines list) (suc k)) (begins-before h) (start-next (lines list) k h ∙ rw (b .start, e))
 
   module _ (end : ℕ) (c : Cut list at end) where
@@ -111,7 +113,13 @@ module _ (list : List ℕ) (k at : ℕ) (b : Begins list k at) where
     begins-next =
         let some = begins-some (omega arith) in
         record {
-          start = rw add-one (omega (arith, start-next (lines list) k some, b .start, ap length begins-line, part-length list at end (c .within)));
+          start = rw add-one (omega (
+            arith,
+            start-next (lines list) k some,
+            b .start,
+            ap length begins-line,
+            part-length list at end (c .within),
+          ));
           rest = rw add-one (cc heads);
           few = omega arith;
           within = omega arith;
@@ -123,7 +131,8 @@ unfolding start-of
 begins-at list zero h = begins-first list
 begins-at list (suc k) h =
     let b = begins-at list k (omega arith) in
-    rw add-one at (begins-next list k (start-of (lines list) k) b (start-of (lines list) (suc k)) (begins-cut list k (start-of (lines list) k) b h))
+    rw add-one at (begins-next list k (start-of (lines list) k) b (start-of (lines list) (suc k))
+    (begins-cut list k (start-of (lines list) k) b h))
 
 module _ (list : List ℕ) (k : ℕ) (h : k < length (lines list)) where
   pub cut-at : Cut list (start-of (lines list) k) (start-of (lines list) (suc k))
@@ -147,7 +156,8 @@ pub number-none : {ls : List (List ℕ)} (k : ℕ) (name : List ℕ) → ls ≡ 
 unfolding number-from
 number-none k name e = rw e
 
-pub number-some : (k : ℕ) (name : List ℕ) (ls : List (List ℕ)) (j : ℕ) → j < length ls → bare (getD ls j []) ≡ name → number-from k name ls ≢ 0
+pub number-some : (k : ℕ) (name : List ℕ) (ls : List (List ℕ)) (j : ℕ) → j < length ls → bare
+    (getD ls j []) ≡ name → number-from k name ls ≢ 0
 unfolding number-from
 number-some k name [] j h e = absurd (omega arith)
 number-some k name (l ∷ ls) zero h e = rw (e, same-bytes-refl name) (λ z. absurd (omega arith))

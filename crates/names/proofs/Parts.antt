@@ -19,7 +19,8 @@ module _ (list : List ℕ) (at end : ℕ) where
       let m : end - at - 1 ≡ end - 1 - at = omega arith in
       rw (part-length h, m, take-take (end - 1 - at) (end - at) (drop at list) (omega arith))
 
-  pub part-last : at < end → end ≤ length list → getD (take (end - at) (drop at list)) (length (take (end - at) (drop at list)) - 1) 0 ≡ getD list (end - 1) 0
+  pub part-last : at < end → end ≤ length list → getD (take (end - at) (drop at list))
+      (length (take (end - at) (drop at list)) - 1) 0 ≡ getD list (end - 1) 0
   part-last h i =
       let m : at + (end - at - 1) ≡ end - 1 = omega arith in
       rw (part-length i, getD-take (end - at) (drop at list) (end - at - 1) 0 (omega arith), getD-drop, m)
@@ -33,7 +34,8 @@ module _ (list : List ℕ) (at end m : ℕ) (stops : m ≡ min end (length list)
       go (yea h) = let f : m ≡ end = omega (arith, leb-true end (length list) h) in rw f
       go (nay h) =
           let l = leb-false end (length list) h in
-          take-all (end - at) (drop at list) (omega (arith, length-drop at list)) ∙ sym (take-all (m - at) (drop at list) (omega (arith, length-drop at list)))
+          take-all (end - at) (drop at list)
+          (omega (arith, length-drop at list)) ∙ sym (take-all (m - at) (drop at list) (omega (arith, length-drop at list)))
 
   pub part-some : bare (take (end - at) (drop at list)) ≡ take (m - 1 - at) (drop at list)
   part-some = rw part-within (part-bare list at m (omega arith))

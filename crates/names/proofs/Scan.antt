@@ -64,7 +64,8 @@ module _ (s : List ℕ) (some : 0 < length s) where
 -- ---- two lists of bytes
 
 module _ (a b : List ℕ) (i : ℕ) where
-  pub same-yes : i < length a → i < length b → getD a i 0 ≡ getD b i 0 → same-bytes (drop i a) (drop i b) ≡ same-bytes (drop (i + 1) a) (drop (i + 1) b)
+  pub same-yes : i < length a → i < length b → getD a i 0 ≡ getD b i 0 → same-bytes (drop i a) (drop i b) ≡ same-bytes (drop (i + 1) a)
+      (drop (i + 1) b)
   unfolding same-bytes
   same-yes h k e = rw (here a i h, here b i k, eq-eqb _ _ e)
 

@@ -13,6 +13,7 @@ use layout::ORDER_RULE;
 use layout::REMAINDER;
 use layout::TAG_RULE;
 use layout::TEXT_RULE;
+use layout::wide;
 
 const CONTENT_KEY: usize = 0;
 
@@ -44,13 +45,6 @@ pub fn field(words: &[u32], a: usize, k: usize) -> u32
         return words[a + k];
     }
     0
-}
-
-// A word as a number of words or an index.
-pub fn wide(word: u32) -> usize
-    ensures { λ r. ⌜ r ≡ word ⌝ }
-{
-    word as usize
 }
 
 // The set whose low and high words are at a and after it.

@@ -27,5 +27,6 @@ module _ {list lines : List ℕ} (listing : Listing list lines) (t : ℕ) (some 
   pub tag-other : (name : List ℕ) → same-bytes (name-by list lines t) name ≡ false → tag-of list name ≢ t
   tag-other name e f =
       let listed : tag-of list name ≢ 0 = λ z. absurd (omega arith) in
-      let same : name-by list lines t ≡ name = own ∙ ap (name-of list) (sym f) ∙ name-of-tag list (line-count list) (listing .checked) name listed in
+      let same : name-by list lines t ≡ name = own ∙ ap (name-of list) (sym f) ∙ name-of-tag list (line-count list)
+      (listing .checked) name listed in
       never (sym e ∙ ap (λ (l : List ℕ). same-bytes l name) same ∙ same-bytes-refl name)

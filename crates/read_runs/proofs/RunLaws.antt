@@ -12,7 +12,8 @@ use lib.ListN.{length, getD, take, drop, drop-of-length-le, length-drop}
 use lib.Seq.{drop-cons, take-suc, getD-drop, drop-drop, length-take-le}
 use borrow.Author.Tests.{ne-eqb, lt-leb}
 use Rattle.model.specs.Lists.{every}
-use Rattle.model.specs.Bytes.{Class, white, letter, digit, hyphen, less, greater, slash, other, forbidden, class-number, is, class-of, letter-byte, name-byte, is-name, same-bytes, within}
+use Rattle.model.specs.Bytes.{Class, white, letter, digit, hyphen, less, greater, slash, other, forbidden, class-number, is, class-of}
+use Rattle.model.specs.Bytes.{letter-byte, name-byte, is-name, same-bytes, within}
 use Rattle.model.specs.Text.{name-at, trimmed, text-at}
 use Rattle.model.specs.Written.{text-byte}
 use Rattle.model.proofs.Tests.{Yes, never, and-yes, or-left, same}
@@ -58,7 +59,8 @@ pub run-within : (test : ℕ → Bool) (s : List ℕ) (i : ℕ) → i ≤ length
 run-within test s i h = omega (arith, run-most test (drop i s), length-drop i s)
 
 -- a byte that passes the test
-pub run-on : (test : ℕ → Bool) (s : List ℕ) (i : ℕ) → i < length s → Yes (test (getD s i 0)) → run test (drop i s) ≡ suc (run test (drop (i + 1) s))
+pub run-on : (test : ℕ → Bool) (s : List ℕ) (i : ℕ) → i < length s → Yes (test (getD s i 0)) → run test (drop i s) ≡ suc
+    (run test (drop (i + 1) s))
 unfolding run
 run-on test s i h e = rw (here s i h, e)
 
@@ -108,8 +110,10 @@ unfolding every
 every-append test [] x = and-true (test x)
 every-append test (y ∷ xs) x = rw (every-append test xs x, and-assoc)
 
-pub every-last : (test : ℕ → Bool) (s : List ℕ) (at i : ℕ) → at + i < length s → every test (take (i + 1) (drop at s)) ≡ (every test (take i (drop at s)) && test (getD s (at + i) 0))
-every-last test s at i h = rw (add-one, take-suc (drop at s) i 0 (rw length-drop (omega arith)), getD-drop) (every-append test (take i (drop at s)) (getD s (at + i) 0))
+pub every-last : (test : ℕ → Bool) (s : List ℕ) (at i : ℕ) → at + i < length s → every test (take (i + 1) (drop at s)) ≡
+    (every test (take i (drop at s)) && test (getD s (at + i) 0))
+every-last test s at i h = rw (add-one, take-suc (drop at s) i 0 (rw length-drop (omega arith)), getD-drop)
+    (every-append test (take i (drop at s)) (getD s (at + i) 0))
 
 -- what the byte behind a run is not
 pub run-left : (test : ℕ → Bool) (P : ℕ → Type 0) → ((b : ℕ) → test b ≡ false → P (class-number (class-of b))) → P 9
@@ -152,7 +156,8 @@ unfolding run name-at name-byte class-within
 name-run [] = refl
 name-run (b ∷ s) = rw (name-classes (class-of b)) (by (within 1 3 (class-number (class-of b))) (name-run s))
   where
-    by : (t : Bool) → name-at s ≡ take (run (class-within 1 3) s) s → cond t (b ∷ name-at s) [] ≡ take (cond t (suc (run (class-within 1 3) s)) 0) (b ∷ s)
+    by : (t : Bool) → name-at s ≡ take (run (class-within 1 3) s) s → cond t (b ∷ name-at s) [] ≡ take
+        (cond t (suc (run (class-within 1 3) s)) 0) (b ∷ s)
     by true ih = ap (λ (l : List ℕ). b ∷ l) ih
     by false ih = refl
 
@@ -175,7 +180,8 @@ named-by (a ∷ name) (b ∷ s) h = let (u, v) = every-cons name-byte a name h i
   where
     by : (t : Bool) → eqb a b ≡ t → Yes (name-byte a)
         → same-bytes name (name-at s) ≡ (same-bytes name (take (length name) s) && not (within 1 3 (first-class (drop (length name) s))))
-        → same-bytes (a ∷ name) (cond (name-byte b) (b ∷ name-at s) []) ≡ ((t && same-bytes name (take (length name) s)) && not (within 1 3 (first-class (drop (length name) s))))
+        → same-bytes (a ∷ name) (cond (name-byte b) (b ∷ name-at s) []) ≡
+        ((t && same-bytes name (take (length name) s)) && not (within 1 3 (first-class (drop (length name) s))))
     by true e u ih = let is-b : Yes (name-byte b) = ap name-byte (sym (same a b e)) ∙ u in rw (is-b, e) ih
     by false e u ih = other (name-byte b)
       where
@@ -221,7 +227,8 @@ module _ (text : List ℕ) (at : ℕ) (name : List ℕ) where
     pub named-else : flag ≡ false → same-bytes name (name-at (drop at text)) ≡ false
     named-else e = rw e at named-here
 
-    pub named-so : flag ≡ true → (k : ℕ) → k ≡ first-class (drop (at + length name) text) → same-bytes name (name-at (drop at text)) ≡ not (leb 1 k && leb k 3)
+    pub named-so : flag ≡ true → (k : ℕ) → k ≡ first-class (drop (at + length name) text) → same-bytes name (name-at (drop at text)) ≡ not
+        (leb 1 k && leb k 3)
     named-so e k told = rw told (rw e at named-here)
 
 -- ---- texts
@@ -277,11 +284,13 @@ module _ (text : List ℕ) (at end : ℕ) (some : at < end) (within : end ≤ le
       let i : at + (end - 1 - at) ≡ end - 1 = omega arith in
       rw k (take-suc (drop at text) (end - 1 - at) 0 (rw length-drop (omega arith)) ∙ rw (getD-drop, i))
 
-  pub trim-back : class-number (class-of (getD text (end - 1) 0)) ≡ 0 → trim (take (end - at) (drop at text)) ≡ trim (take (end - 1 - at) (drop at text))
+  pub trim-back : class-number (class-of (getD text (end - 1) 0)) ≡ 0 → trim (take (end - at) (drop at text)) ≡ trim
+      (take (end - 1 - at) (drop at text))
   unfolding is class-number
   trim-back e = rw last-byte (trim-white (take (end - 1 - at) (drop at text)) (getD text (end - 1) 0) (rw e))
 
-  pub trim-stops : class-number (class-of (getD text (end - 1) 0)) ≢ 0 → trim (take (end - at) (drop at text)) ≡ take (end - at) (drop at text)
+  pub trim-stops : class-number (class-of (getD text (end - 1) 0)) ≢ 0 → trim (take (end - at) (drop at text)) ≡ take (end - at)
+      (drop at text)
   unfolding is class-number
   trim-stops e = rw last-byte (trim-solid (take (end - 1 - at) (drop at text)) (getD text (end - 1) 0) (rw (ne-eqb _ _ e)))
 

@@ -29,7 +29,7 @@ fn put_entry(sheet: &[u32], at: u32, j: usize, index: &mut [u32])
     requires { ⌜ EntryFits (now index) j at ⌝ }
     ensures { λ _. ⌜ now (index .exit) ≡ with-entry (now (sheet .entry)) (now (index .entry)) j at ⌝ }
 {
-    let begin = parts::wide(at);
+    let begin = layout::wide(at);
     let key = parts::key_of(parts::at(sheet, begin), parts::field(sheet, begin, 1));
     index[ENTRIES + j] = at + index[key] * UPPER;
     index[key] = j as u32;
@@ -44,7 +44,7 @@ pub(crate) fn chain(sheet: &[u32], places: &[u32], index: &mut [u32])
 {
     let n = sheet[RULES];
     clear_heads(index, n);
-    let mut j = parts::wide(n);
+    let mut j = layout::wide(n);
     index[ENTRIES + j] = sheet.len() as u32;
     while 0 < j {
         j -= 1;

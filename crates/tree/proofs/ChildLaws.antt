@@ -50,7 +50,8 @@ module _ (t : List ℕ) (g levels i end : ℕ) (after-text : Bool) (fits : 4 * e
   unfolding children-by
   shape-whole e w = let (inside, p) = whole-inv _ w in by-seen e ∙ ap shape-of (bind-passes _ p) ∙ shape-made _ _
 
-  pub shape-inside : {next p : ℕ} → look t g levels i end after-text ≡ an-element next → shape-at t g (levels - 1) (i + 1) next false ≡ Broken p
+  pub shape-inside : {next p : ℕ} → look t g levels i end after-text ≡ an-element next → shape-at t g (levels - 1)
+      (i + 1) next false ≡ Broken p
       → shape-at t g levels i end after-text ≡ Broken p
   unfolding children-by shape-of
   shape-inside e b = let (n, r) = broken-inv _ b in by-seen e ∙ ap shape-of (bind-refused _ r)

@@ -15,6 +15,7 @@ use layout::MOST_NODES;
 use layout::MOST_WORDS;
 use layout::NODE_WORDS;
 use layout::TAGS;
+use layout::wide;
 use model::Answer;
 use model::Judgement;
 use model::Refusal;
@@ -29,12 +30,6 @@ const FORM_BYTES: usize = 65536;
 
 // A line has at most so many bytes.
 pub const LINE_BYTES: usize = line::MOST_BYTES;
-
-fn wide(x: u32) -> usize
-    ensures { λ r. ⌜ r ≡ x ⌝ }
-{
-    x as usize
-}
 
 // The checks from the text on, by a list of `names` names and a sheet that both pass: text, 20, run. A tree that was read has
 // at most MOST_NODES nodes and keeps its shape, so neither 22 nor 10 can come up.

@@ -27,7 +27,8 @@ total-append list [] fs = omega arith
 total-append list (e ∷ es) fs = omega (arith, total-append list es fs)
 
 module _ (list source : List ℕ) where
-  length-element : (a : ℕ) (w : Span) (d : Document) → length (written list source (tag a w d)) ≡ own list (tag a w d) + length (writtenD list source d)
+  length-element : (a : ℕ) (w : Span) (d : Document) → length (written list source (tag a w d)) ≡ own list (tag a w d) + length
+      (writtenD list source d)
   unfolding own written tagged
   length-element a w ε = omega (arith, length-append (name-of list a) (47 ∷ 62 ∷ []))
   length-element a w (e · d) =

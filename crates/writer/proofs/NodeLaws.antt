@@ -52,7 +52,8 @@ module _ (list : List ℕ) (n : Node) where
     unfolding own-bytes own-by
     own-pair e = rw (s, ne-eqb _ _ e)
 
-  pub own-bound : n .bytes < 4294967296 → ((a : ℕ) → symbol-of (n .symbol) ≡ of-tag a → length (name-of list a) ≤ 24) → own-bytes list n < 4294967296
+  pub own-bound : n .bytes < 4294967296 →
+      ((a : ℕ) → symbol-of (n .symbol) ≡ of-tag a → length (name-of list a) ≤ 24) → own-bytes list n < 4294967296
   own-bound h k = go (symbol-of (n .symbol)) refl (told (eqb (n .size) 1))
     where
       go : (r : Symbol) → symbol-of (n .symbol) ≡ r → Told (eqb (n .size) 1) → own-bytes list n < 4294967296

@@ -5,7 +5,8 @@ use Prim.Native.Nat.{ℕ, _/_, _≤_, _<_}
 use native.Mathlib.Omega.{arith}
 use borrow.Author.Tests.{le-leb, lt-leb}
 use lib.ListN.{length}
-use Rattle.model.specs.Answers.{refusal, said, said-refusal, Checked, passes, refuses, _>>=_, _>>_, require, room-for, answer-of, buffer-after}
+use Rattle.model.specs.Answers.{refusal, said, said-refusal, Checked, passes, refuses, _>>=_, _>>_, require, room-for, answer-of}
+use Rattle.model.specs.Answers.{buffer-after}
 use Rattle.model.specs.Calls.{names-said, tree-said, write, write-said, write-out}
 use Rattle.model.specs.Names.{names-of}
 use Rattle.model.specs.Tree.{ε, _·_, nodes}
@@ -33,7 +34,8 @@ module _ (list source tree out : List ℕ) where
   abbrev pub Says : Answer → List ℕ → Type 0
   Says r after = (said r ≡ write-said list source tree out) × (after ≡ write-out list source tree out)
 
-  says-refusal : {m i : ℕ} (x : Refusal) → said-refusal x ≡ refusal m i → write list source tree (length out) ≡ refuses m i → Says (Error x) out
+  says-refusal : {m i : ℕ} (x : Refusal) → said-refusal x ≡ refusal m i → write list source tree (length out) ≡ refuses m i → Says
+      (Error x) out
   unfolding said write-said write-out answer-of buffer-after
   says-refusal x s e = (s ∙ rw e, rw e)
 
@@ -72,7 +74,12 @@ module _ (list source tree out : List ℕ) where
 
       -- the root is ready to be put
       pub root-ready : b ≤ length out → Ready list starts source tree out 32 0 n 0
-      root-ready l = record { document = p .root · ε; stands = passed-stands p good-nodes; room = rw (passed-form p) (omega (arith, pass .1)) }
+      root-ready l = record {
+        document = p .root · ε;
+        stands = passed-stands p good-nodes;
+        room = rw (passed-form p)
+            (omega (arith, pass .1));
+      }
 
       pub says-long : 65535 < b → Says (Error (LongForm b)) out
       unfolding write require _>>_ _>>=_ short-enough said-refusal
@@ -81,13 +88,15 @@ module _ (list source tree out : List ℕ) where
       module _ (k : b ≤ 65535) where
         pub says-short : length out < b → Says (Error (ShortBuffer b)) out
         unfolding write require _>>_ _>>=_ short-enough room-for said-refusal
-        says-short l = says-refusal (ShortBuffer b) refl (rw (p .names, le-leb _ _ (p .short), p .shape, pass .0, ← pass .1, le-leb _ _ k, ← pass .1, lt-leb _ _ l))
+        says-short l = says-refusal (ShortBuffer b) refl
+            (rw (p .names, le-leb _ _ (p .short), p .shape, pass .0, ← pass .1, le-leb _ _ k, ← pass .1, lt-leb _ _ l))
 
         all-pass : b ≤ length out → write list source tree (length out) ≡ passes (written list source (p .root))
         unfolding write require _>>_ _>>=_ short-enough room-for
         all-pass l = rw (p .names, le-leb _ _ (p .short), p .shape, pass .0, ← pass .1, le-leb _ _ k, ← pass .1, le-leb _ _ l)
 
-        pub says-written : {next : ℕ} {after : List ℕ} → b ≤ length out → Puts list starts source tree 32 0 n out 0 next after → Says (Count b) after
+        pub says-written : {next : ℕ} {after : List ℕ} → b ≤ length out → Puts list starts source tree 32 0 n out 0 next after → Says
+            (Count b) after
         unfolding said write-said write-out answer-of buffer-after
         says-written l puts =
             let w = all-pass l in

@@ -8,7 +8,8 @@ use lib.Dec.{eqb}
 use lib.ListN.{length}
 use Rattle.model.specs.Answers.{Checked, passes, refuses, _>>=_, _>>_}
 use Rattle.model.specs.Names.{names-of}
-use Rattle.model.specs.Tree.{Element, tag, Document, ε, _·_, size, nodes, symbol-at, size-at, span-at, tag-symbol, children-by, children, words, Over, tree-of}
+use Rattle.model.specs.Tree.{Element, tag, Document, ε, _·_, size, nodes, symbol-at, size-at, span-at, tag-symbol, children-by, children}
+use Rattle.model.specs.Tree.{words, Over, tree-of}
 use Rattle.model.specs.Written.{written, writtenD, texts-checked}
 use Rattle.model.proofs.CheckLaws.{passes-inj, bind-inv, required}
 use Rattle.model.proofs.DocumentLaws.{GoodNodes, texts-good}
@@ -25,11 +26,13 @@ use Rattle.writer.proofs.Standing.{some-size}
 
 -- node 0 with what stands from node 1 on, as the one child of nodes 0 to n − 1
 one-child : (t : List ℕ) (g n : ℕ) (d : Document) → g ≤ 64 → 1 ≤ n → n ≤ length t → Yes (tag-symbol g (symbol-at t 0)) → size-at t 0 ≡ n
-    → children t g (length t) 31 1 n false ≡ passes d → children t g (length t) 32 0 n false ≡ passes (tag (symbol-at t 0) (span-at t 0) d · ε)
+    → children t g (length t) 31 1 n false ≡ passes d → children t g (length t) 32 0 n false ≡ passes
+    (tag (symbol-at t 0) (span-at t 0) d · ε)
 unfolding children-by _>>=_
 one-child t g n d small some fits y z r =
     let next : 0 + size-at t 0 ≡ n = omega arith in
-    children-seen t g 32 0 n false fits (look-element t g 32 0 n false (tag-no-text g (symbol-at t 0) small y) y (omega arith) (omega arith) (omega arith))
+    children-seen t g 32 0 n false fits
+    (look-element t g 32 0 n false (tag-no-text g (symbol-at t 0) small y) y (omega arith) (omega arith) (omega arith))
     ∙ rw (next, r, children-seen t g 32 n n false fits (look-end t g 32 n n false (omega arith)))
 
 -- what is known once the checks before 11 have passed: the number of tags, the tree's root and its number of nodes
@@ -66,15 +69,18 @@ module _ {list starts source tree : List ℕ} {g n : ℕ} (p : Passed list start
 
   nodes-listed : Listed list starts source tree 0 (nodes (p .root))
   unfolding nodes
-  nodes-listed = rw append-nil at (listed list starts source tree g (p .names) (p .index) (p .root · ε) 32 0 n false (omega (arith, tree-length)) root-read)
+  nodes-listed = rw append-nil at (listed list starts source tree g (p .names) (p .index) (p .root · ε) 32 0 n false
+      (omega (arith, tree-length)) root-read)
 
   pub passed-tags : Tags list starts tree
   passed-tags = record {
     few = omega (arith, tree-length, p .count, words-over .1 .few);
-    each = λ i h. listed-named list starts source tree (nodes (p .root)) 0 i nodes-listed (omega arith) (omega (arith, tree-length, p .count, length-nodes (p .root)));
+    each = λ i h. listed-named list starts source tree (nodes (p .root)) 0 i nodes-listed (omega arith)
+        (omega (arith, tree-length, p .count, length-nodes (p .root)));
   }
 
-  pub passed-measured : measured list source tree (length tree / 4) 0 0 ≡ (texts-checked source 0 (nodes (p .root)) >> passes (length (written list source (p .root))))
+  pub passed-measured : measured list source tree (length tree / 4) 0 0 ≡
+      (texts-checked source 0 (nodes (p .root)) >> passes (length (written list source (p .root))))
   unfolding _>>_
   passed-measured =
       let m : length tree / 4 ≡ length (nodes (p .root)) = omega (arith, tree-length, p .count, length-nodes (p .root)) in
@@ -87,7 +93,16 @@ module _ {list starts source tree : List ℕ} {g n : ℕ} (p : Passed list start
 
   pub passed-stands : GoodNodes source (nodes (p .root)) → Stands list starts source tree 32 0 n (p .root · ε)
   unfolding nodes
-  passed-stands h = record { tags = g; after-text = false; names = p .names; index = p .index; within = omega (arith, tree-length); read = root-read; good = rw append-nil h }
+  passed-stands h = record {
+    tags = g;
+    after-text = false;
+    names = p .names;
+    index = p .index;
+    within = omega (arith, tree-length);
+    read =
+        root-read;
+    good = rw append-nil h;
+  }
 
   pub passed-form : writtenD list source (p .root · ε) ≡ written list source (p .root)
   unfolding written

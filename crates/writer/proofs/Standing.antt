@@ -9,7 +9,8 @@ use lib.ListN.{length}
 use Rattle.model.specs.Answers.{passes}
 use Rattle.model.specs.Lists.{every}
 use Rattle.model.specs.Names.{name-of}
-use Rattle.model.specs.Tree.{Element, text, tag, Document, ε, _·_, size, sizeD, nodes, nodesD, symbol-at, size-at, span-at, of-tag, of-text, symbol-of, Seen, children-by, children}
+use Rattle.model.specs.Tree.{Element, text, tag, Document, ε, _·_, size, sizeD, nodes, nodesD, symbol-at, size-at, span-at, of-tag, of-text}
+use Rattle.model.specs.Tree.{symbol-of, Seen, children-by, children}
 use Rattle.model.specs.Written.{source-bytes, tagged, written, writtenD, good-words}
 use Rattle.model.proofs.CheckLaws.{refuses≢passes, passes-inj, bind-inv}
 use Rattle.model.proofs.ListLaws.{every-cons, every-append}
@@ -51,13 +52,15 @@ module _ (t : List ℕ) (g : ℕ) where
       let fill = children-fill t g (levels - 1) (i + 1) n false c (omega arith) (omega arith) k in
       let size : size-at t i ≡ suc (sizeD c) = omega arith in
       rw (← passes-inj q) (an-element (of-tag-symbol g (symbol-at t i) x y) b l size (omega arith)
-      (sym (ap (λ (m : ℕ). children t g (length t) (levels - 1) (i + 1) m false) is) ∙ k) (sym (ap (λ (m : ℕ). children t g (length t) levels m end false) is) ∙ k′))
+      (sym (ap (λ (m : ℕ). children t g (length t) (levels - 1) (i + 1) m false) is) ∙ k)
+      (sym (ap (λ (m : ℕ). children t g (length t) levels m end false) is) ∙ k′))
   first-seen levels i end after-text s w (broken-here _) e = absurd (refuses≢passes e)
 
   pub first : (levels i end : ℕ) (after-text : Bool) (d : Document) → 4 * end ≤ length t
       → children t g (length t) levels i end after-text ≡ passes d → First levels i end d
   first levels i end after-text d w e =
-      first-seen levels i end after-text _ w (view t g levels i end after-text) (sym (children-step t g levels i end after-text (omega arith)) ∙ e)
+      first-seen levels i end after-text _ w (view t g levels i end after-text)
+      (sym (children-step t g levels i end after-text (omega arith)) ∙ e)
 
 -- ---- how an element is written, by its size
 
@@ -71,7 +74,8 @@ unfolding tagged size
 tagged-empty name content ε h = refl
 tagged-empty name content (e · c) h = absurd (omega (arith, some-size e))
 
-tagged-full : (name content rest : List ℕ) (c : Document) → suc (sizeD c) ≢ 1 → tagged name c content ++ rest ≡ start-tag name ++ (content ++ (end-tag name ++ rest))
+tagged-full : (name content rest : List ℕ) (c : Document) → suc (sizeD c) ≢ 1 → tagged name c content ++ rest ≡ start-tag name ++
+    (content ++ (end-tag name ++ rest))
 unfolding tagged size
 tagged-full name content rest ε h = absurd (h refl)
 tagged-full name content rest (e · c) h = simp append-assoc
@@ -98,13 +102,24 @@ module _ (list starts source tree : List ℕ) (levels i end : ℕ) (d : Document
     pub ends : i + n .size ≤ end
     pub empty : n .size ≡ 1 → writtenD list source d ≡ empty-tag (name-of list a) ++ writtenD list source rest
     pub full : n .size ≢ 1
-        → writtenD list source d ≡ start-tag (name-of list a) ++ (writtenD list source content ++ (end-tag (name-of list a) ++ writtenD list source rest))
+        → writtenD list source d ≡ start-tag (name-of list a) ++
+        (writtenD list source content ++ (end-tag (name-of list a) ++ writtenD list source rest))
 
 module _ (list starts source tree : List ℕ) (levels i end : ℕ) (d : Document) (s : Stands list starts source tree levels i end d) where
   -- the same names, index and words, elsewhere in the tree
-  elsewhere : {levels′ i′ end′ : ℕ} {c : Document} (after-text : Bool) → end′ ≤ end → children tree (s .tags) (length tree) levels′ i′ end′ after-text ≡ passes c
+  elsewhere : {levels′ i′ end′ : ℕ} {c : Document} (after-text : Bool) → end′ ≤ end → children tree (s .tags)
+      (length tree) levels′ i′ end′ after-text ≡ passes c
       → Yes (every (good-words source) (nodesD c)) → Stands list starts source tree levels′ i′ end′ c
-  elsewhere after-text h read good = record { tags = s .tags; after-text = after-text; names = s .names; index = s .index; within = omega (arith, s .within); read = read; good = good }
+  elsewhere after-text h read good = record {
+    tags = s .tags;
+    after-text = after-text;
+    names = s .names;
+    index = s .index;
+    within = omega (arith, s .within);
+    read = read;
+    good =
+        good;
+  }
 
   text-by : (d′ : Document) → First tree (s .tags) levels i end d′ → Yes (every (good-words source) (nodesD d′)) → i < end
       → ((a : ℕ) → symbol-of (symbol-at tree i) ≢ of-tag a) → TextFirst list starts source tree levels i end d′ (node-at tree i)
@@ -133,17 +148,20 @@ module _ (list starts source tree : List ℕ) (levels i end : ℕ) (d : Document
         deep = l;
         sized = omega arith;
         ends = le;
-        empty = λ e. rw (← is) (ap (λ (form : List ℕ). form ++ writtenD list source rest) (tagged-empty name (writtenD list source c) c (omega arith)));
+        empty = λ e. rw (← is) (ap (λ (form : List ℕ). form ++ writtenD list source rest)
+            (tagged-empty name (writtenD list source c) c (omega arith)));
         full = λ e. rw (← is) (tagged-full name (writtenD list source c) (writtenD list source rest) c (λ f. e (omega arith)));
       }
 
   stands-first : First tree (s .tags) levels i end d
   stands-first = first tree (s .tags) levels i end (s .after-text) d (s .within) (s .read)
 
-  pub text-first : (n : Node) → n ≡ node-at tree i → i < end → ((a : ℕ) → symbol-of (n .symbol) ≢ of-tag a) → TextFirst list starts source tree levels i end d n
+  pub text-first : (n : Node) → n ≡ node-at tree i → i < end →
+      ((a : ℕ) → symbol-of (n .symbol) ≢ of-tag a) → TextFirst list starts source tree levels i end d n
   text-first n is h = rw is (text-by d stands-first (s .good) h)
 
-  pub element-first : (n : Node) {a : ℕ} → n ≡ node-at tree i → i < end → symbol-of (n .symbol) ≡ of-tag a → ElementFirst list starts source tree levels i end d n a
+  pub element-first : (n : Node) {a : ℕ} → n ≡ node-at tree i → i < end → symbol-of
+      (n .symbol) ≡ of-tag a → ElementFirst list starts source tree levels i end d n a
   element-first n is h = rw is (element-by d stands-first (s .good) h)
 
   none-by : (d′ : Document) → First tree (s .tags) levels i end d′ → end ≤ i → writtenD list source d′ ≡ []

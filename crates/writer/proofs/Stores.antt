@@ -53,7 +53,8 @@ pub room-then : {l m xs : List ℕ} {at o : ℕ} (ys : List ℕ) → Put l at xs
 room-then {xs = xs} ys h r = omega (arith, h .next-is, put-length h, length-append xs ys)
 
 -- and so for the name and the tail of a tag
-module _ {l m lead : List ℕ} {at o : ℕ} (name tail : List ℕ) (h : Put l at lead o m) (r : at + length (lead ++ (name ++ tail)) ≤ length l) where
+module _ {l m lead : List ℕ} {at o : ℕ} (name tail : List ℕ) (h : Put l at lead o m)
+    (r : at + length (lead ++ (name ++ tail)) ≤ length l) where
   pub room-name : o + length name ≤ length m
   room-name = room-first m name tail o (room-then (name ++ tail) h r)
 
@@ -68,7 +69,8 @@ put-front {l} {xs = xs} h k = let z : 0 + length xs ≡ length xs = omega arith 
 -- ---- a run copied byte by byte
 
 module _ (l bytes : List ℕ) (at i : ℕ) where
-  pub copy-next : i < length bytes → stored l (at + i) (drop i bytes) ≡ stored (set l (at + i) (getD bytes i 0)) (at + (i + 1)) (drop (i + 1) bytes)
+  pub copy-next : i < length bytes → stored l (at + i) (drop i bytes) ≡ stored (set l (at + i) (getD bytes i 0)) (at + (i + 1))
+      (drop (i + 1) bytes)
   unfolding stored
   copy-next h = let e : at + (i + 1) ≡ suc (at + i) = omega arith in rw (e, add-one i, drop-cons bytes i 0 h)
 

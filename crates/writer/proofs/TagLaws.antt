@@ -21,5 +21,6 @@ module _ {list starts : List ℕ} {a : ℕ} (t : Tag list starts a) where
   tag-short = name-short list (t .tags) (t .names) a (t .some) (t .few)
 
 -- the tag of node i, where it is one
-pub node-tag : {list starts tree : List ℕ} {i : ℕ} {n : Node} → Tags list starts tree → i < length tree / 4 → n ≡ node-at tree i → TagOf list starts (n .symbol)
+pub node-tag : {list starts tree : List ℕ} {i : ℕ} {n : Node} → Tags list starts tree → i < length tree / 4 → n ≡ node-at tree i → TagOf
+    list starts (n .symbol)
 node-tag {i = i} t h is = rw is (t .each i h)

@@ -33,7 +33,8 @@ module _ (source : List ℕ) (w : Span) where
 -- ---- a test of every byte, from byte i on, with a flag for the bytes before it
 
 module _ (f : ℕ → Bool) (s : List ℕ) (i : ℕ) where
-  pub flag-next : (good : Bool) {all here : Bool} → all ≡ (good && every f (drop i s)) → i < length s → here ≡ f (getD s i 0) → all ≡ ((good && here) && every f (drop (i + 1) s))
+  pub flag-next : (good : Bool) {all here : Bool} → all ≡ (good && every f (drop i s)) → i < length s → here ≡ f (getD s i 0) → all ≡
+      ((good && here) && every f (drop (i + 1) s))
   flag-next good {here = here} e h t = e ∙ rw (every-at f s i h, ← t) (sym (and-assoc good here _))
 
   pub flag-end : (good : Bool) {all : Bool} → all ≡ (good && every f (drop i s)) → length s ≤ i → all ≡ good
@@ -62,5 +63,6 @@ module _ (s : List ℕ) (some : 0 < length s) where
   pub trimmed-white : (is (class-of (getD s 0 0)) white || is (class-of (getD s (length s - 1) 0)) white) ≡ true → trimmed-text s ≡ false
   trimmed-white h = trimmed-by s some ∙ rw h
 
-  pub trimmed-solid : (is (class-of (getD s 0 0)) white || is (class-of (getD s (length s - 1) 0)) white) ≡ false → trimmed-text s ≡ every text-byte s
+  pub trimmed-solid : (is (class-of (getD s 0 0)) white || is (class-of (getD s (length s - 1) 0)) white) ≡ false → trimmed-text s ≡ every
+      text-byte s
   trimmed-solid h = trimmed-by s some ∙ rw h

@@ -26,8 +26,13 @@ kind-of-spec =
     (λ c. (search needs, refl))
     (λ c. search needs)
     (λ c κs. search needs)
-    (λ c. rw (c .before .before .before .before .loop .inv .1 ∙ every-no digit-byte _ _ (c .before .before .before .loop-test .taken) (sym (c .before .is-digit .ensures) ∙ not-true _ (c .if1 .taken))))
+    (λ c. rw (c .before .before .before .before .loop .inv .1 ∙ every-no digit-byte _ _ (c .before .before .before .loop-test .taken)
+    (sym (c .before .is-digit .ensures) ∙ not-true _ (c .if1 .taken))))
     (λ c. search needs)
     (λ c. search needs)
-    (λ c. (search needs, c .before .before .before .before .loop .inv .1 ∙ every-yes digit-byte _ _ (c .before .before .before .loop-test .taken) (sym (c .before .is-digit .ensures) ∙ not-false _ (c .if1 .left))))
+    (λ c. (
+      search needs,
+      c .before .before .before .before .loop .inv .1 ∙ every-yes digit-byte _ _
+          (c .before .before .before .loop-test .taken) (sym (c .before .is-digit .ensures) ∙ not-false _ (c .if1 .left)),
+    ))
     (λ c. rw (c .before .loop .inv .1 ∙ every-end digit-byte _ _ (c .loop-test .left))))

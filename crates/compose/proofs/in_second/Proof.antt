@@ -20,4 +20,5 @@ in-second-spec =
     (λ c. λ i e. ap (λ (k : ℕ). refusal 9 (k + 20000)) (nine-place e (c .before .bad .given .1)))
     (λ c.
     λ i e.
-    absurd (miss (0 ∷ 1 ∷ 2 ∷ 3 ∷ 4 ∷ 5 ∷ 6 ∷ 7 ∷ 9 ∷ 10 ∷ 11 ∷ 12 ∷ 13 ∷ 14 ∷ 15 ∷ []) 8 tt (rw (nine-sheet (c .before .args .bad) e) at (c .match .keys2)))))
+    absurd (miss (0 ∷ 1 ∷ 2 ∷ 3 ∷ 4 ∷ 5 ∷ 6 ∷ 7 ∷ 9 ∷ 10 ∷ 11 ∷ 12 ∷ 13 ∷ 14 ∷ 15 ∷ []) 8 tt
+    (rw (nine-sheet (c .before .args .bad) e) at (c .match .keys2)))))

@@ -24,7 +24,8 @@ join-spec =
     let after-enum-told = after-index2 .before .before in
     let after-index = after-enum-told .before .before in
     let s = sheet-indexed _ _ (after-index .index .ensures .0) (after-index .index .ensures .1) (after-enum-told .enum-told .given .1) in
-    second-refused _ _ _ (s .sheet) (c .in-second .result) (after-index2 .index2 .ensures .0) (after-bad2 .bad2 .given .1) (c .in-second .ensures))
+    second-refused _ _ _ (s .sheet) (c .in-second .result) (after-index2 .index2 .ensures .0) (after-bad2 .bad2 .given .1)
+    (c .in-second .ensures))
     (λ c. search needs)
     (λ c κs. search needs)
     (λ c κs. search needs)
@@ -38,7 +39,8 @@ join-spec =
     let after-enum-told = after-index2 .before .before in
     let after-index = after-enum-told .before .before in
     let s = sheet-indexed _ _ (after-index .index .ensures .0) (after-index .index .ensures .1) (after-enum-told .enum-told .given .1) in
-    let t = sheet-indexed _ _ (after-index2 .index2 .ensures .0) (after-index2 .index2 .ensures .1) (after-enum-told2 .enum-told2 .given .1) in
+    let t = sheet-indexed _ _ (after-index2 .index2 .ensures .0) (after-index2 .index2 .ensures .1)
+    (after-enum-told2 .enum-told2 .given .1) in
     tags-refused _ _ _ (s .sheet) (t .sheet) (after-at2 .at2 .ensures) (after-at .at .ensures) (c .wide .ensures) (after-if1 .if1 .taken))
     (λ c κs.
     let after-enum-told2 = c .before .before .before .before .before .before in
@@ -59,5 +61,7 @@ join-spec =
     let after-enum-told = after-index2 .before .before in
     let after-index = after-enum-told .before .before in
     let s = sheet-indexed _ _ (after-index .index .ensures .0) (after-index .index .ensures .1) (after-enum-told .enum-told .given .1) in
-    let t = sheet-indexed _ _ (after-index2 .index2 .ensures .0) (after-index2 .index2 .ensures .1) (after-enum-told2 .enum-told2 .given .1) in
-    join-written _ _ _ (s .sheet) (t .sheet) (after-at2 .at2 .ensures) (after-at .at .ensures) (after-if1 .if1 .left) (after-join-indexed .join-indexed .ensures)))
+    let t = sheet-indexed _ _ (after-index2 .index2 .ensures .0) (after-index2 .index2 .ensures .1)
+    (after-enum-told2 .enum-told2 .given .1) in
+    join-written _ _ _ (s .sheet) (t .sheet) (after-at2 .at2 .ensures) (after-at .at .ensures) (after-if1 .if1 .left)
+    (after-join-indexed .join-indexed .ensures)))

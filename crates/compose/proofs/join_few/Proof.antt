@@ -33,4 +33,5 @@ join-few-spec =
     let after-if1 = after-join-within .before .before .before in
     let after-tally-rules = after-if1 .before .before in
     let start = after-tally-rules .before .before .before .before .before .before in
-    limited-within _ _ (few-joint (start .pre)) (joint-limit (start .pre) (after-tally-rules .tally-rules .ensures) .place) (after-if1 .if1 .left) (after-join-within .join-within .ensures)))
+    limited-within _ _ (few-joint (start .pre)) (joint-limit (start .pre) (after-tally-rules .tally-rules .ensures) .place)
+    (after-if1 .if1 .left) (after-join-within .join-within .ensures)))

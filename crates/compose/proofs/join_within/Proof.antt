@@ -15,11 +15,13 @@ join-within-spec =
     (λ c. search needs)
     (λ c. search needs)
     (λ c κs. search needs)
-    (λ c. fitted-refused _ _ (c .before .before .before .before .joint-length .ensures) (c .before .before .before .check-words .ensures) (c .before .refusal .given .1))
+    (λ c. fitted-refused _ _ (c .before .before .before .before .joint-length .ensures) (c .before .before .before .check-words .ensures)
+    (c .before .refusal .given .1))
     (λ c. search needs)
     (λ c.
     let after-put-joint = c .before .before in
     let after-enum-told = after-put-joint .before .before in
     let after-check-words = after-enum-told .before .before in
     let after-joint-length = after-check-words .before in
-    fitted-words _ _ (after-joint-length .joint-length .ensures) (after-check-words .check-words .ensures) (after-enum-told .enum-told .given .1) (after-put-joint .put-joint .ensures)))
+    fitted-words _ _ (after-joint-length .joint-length .ensures) (after-check-words .check-words .ensures)
+    (after-enum-told .enum-told .given .1) (after-put-joint .put-joint .ensures)))

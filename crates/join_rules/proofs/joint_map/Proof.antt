@@ -19,4 +19,5 @@ joint-map-spec =
     let after-with-order2 = after-with-count .before in
     let after-with-order = after-with-order2 .before in
     let start = after-with-order .before .before .before .before .before in
-    map-made _ _ (start .args .rules) (after-with-order .with-order .ensures) (after-with-order2 .with-order2 .ensures) (after-with-count .with-count .ensures) (after-with-count2 .with-count2 .ensures) (c .content-map .ensures)))
+    map-made _ _ (start .args .rules) (after-with-order .with-order .ensures) (after-with-order2 .with-order2 .ensures)
+    (after-with-count .with-count .ensures) (after-with-count2 .with-count2 .ensures) (c .content-map .ensures)))

@@ -24,5 +24,7 @@ put-contents-spec =
     let after-put = after-put-order .before .before .before .before in
     let after-joint-map = after-put .before in
     let start = after-joint-map .before .before .before .before .before in
-    let words = content-words-in (start .pre .0) (start .pre .1 .1 .0) (start .pre .1 .1 .1) (after-joint-map .joint-map .ensures) (after-joint-target .joint-target .ensures) in
-    as-words words (then (after-put .put .ensures) (then (after-put-order .put-order .ensures) (then (after-put-count .put-count .ensures) (after-put2 .put2 .ensures))))))
+    let words = content-words-in (start .pre .0) (start .pre .1 .1 .0) (start .pre .1 .1 .1) (after-joint-map .joint-map .ensures)
+    (after-joint-target .joint-target .ensures) in
+    as-words words (then (after-put .put .ensures)
+    (then (after-put-order .put-order .ensures) (then (after-put-count .put-count .ensures) (after-put2 .put2 .ensures))))))

@@ -21,8 +21,10 @@ put-count-spec =
     let after-count-at = after-count-at2 .before in
     let start = after-count-at .before .before .before .before .before .before in (
       start .pre .few,
-      count-S-there (start .pre) (after-count-at .count-at .ensures) (after-count-at2 .count-at2 .ensures) (after-with-count .with-count .ensures) (after-if1 .if1 .taken),
-      count-T-there (start .pre) (after-count-at .count-at .ensures) (after-count-at2 .count-at2 .ensures) (after-with-count2 .with-count2 .ensures) (after-if2 .if2 .taken),
+      count-S-there (start .pre) (after-count-at .count-at .ensures) (after-count-at2 .count-at2 .ensures)
+          (after-with-count .with-count .ensures) (after-if1 .if1 .taken),
+      count-T-there (start .pre) (after-count-at .count-at .ensures) (after-count-at2 .count-at2 .ensures)
+          (after-with-count2 .with-count2 .ensures) (after-if2 .if2 .taken),
     ))
     (λ c. search needs)
     (λ c.
@@ -34,14 +36,19 @@ put-count-spec =
     let after-count-at2 = after-with-count .before in
     let after-count-at = after-count-at2 .before in
     let start = after-count-at .before .before .before .before .before .before in
-    counts-joined (start .pre) (after-count-at .count-at .ensures) (after-count-at2 .count-at2 .ensures) (after-with-count .with-count .ensures) (after-with-count2 .with-count2 .ensures) (after-if1 .if1 .taken) (after-if2 .if2 .taken) (after-join-counts .join-counts .ensures))
+    counts-joined (start .pre) (after-count-at .count-at .ensures) (after-count-at2 .count-at2 .ensures)
+    (after-with-count .with-count .ensures) (after-with-count2 .with-count2 .ensures) (after-if1 .if1 .taken) (after-if2 .if2 .taken)
+    (after-join-counts .join-counts .ensures))
     (λ c κs.
     let after-if1 = c .before .before .before in
     let after-with-count = after-if1 .before in
     let after-count-at2 = after-with-count .before in
     let after-count-at = after-count-at2 .before in
-    let start = after-count-at .before .before .before .before .before .before in
-    (start .pre .few, count-S-there (start .pre) (after-count-at .count-at .ensures) (after-count-at2 .count-at2 .ensures) (after-with-count .with-count .ensures) (after-if1 .if1 .taken)))
+    let start = after-count-at .before .before .before .before .before .before in (
+      start .pre .few,
+      count-S-there (start .pre) (after-count-at .count-at .ensures) (after-count-at2 .count-at2 .ensures)
+          (after-with-count .with-count .ensures) (after-if1 .if1 .taken),
+    ))
     (λ c. search needs)
     (λ c.
     let after-lift-count = c .before .before in
@@ -52,15 +59,20 @@ put-count-spec =
     let after-count-at2 = after-with-count .before in
     let after-count-at = after-count-at2 .before in
     let start = after-count-at .before .before .before .before .before .before in
-    count-S-lifted (start .pre) (after-count-at .count-at .ensures) (after-count-at2 .count-at2 .ensures) (after-with-count .with-count .ensures) (after-with-count2 .with-count2 .ensures) (after-if1 .if1 .taken) (after-if2 .if2 .left) (after-lift-count .lift-count .ensures))
+    count-S-lifted (start .pre) (after-count-at .count-at .ensures) (after-count-at2 .count-at2 .ensures)
+    (after-with-count .with-count .ensures) (after-with-count2 .with-count2 .ensures) (after-if1 .if1 .taken) (after-if2 .if2 .left)
+    (after-lift-count .lift-count .ensures))
     (λ c κs. search needs)
     (λ c κs.
     let after-if3 = c .before in
     let after-with-count3 = after-if3 .before in
     let after-count-at2 = after-with-count3 .before .before .before in
     let after-count-at = after-count-at2 .before in
-    let start = after-count-at .before .before .before .before .before .before in
-    (start .pre .few, count-T-there (start .pre) (after-count-at .count-at .ensures) (after-count-at2 .count-at2 .ensures) (after-with-count3 .with-count3 .ensures) (after-if3 .if3 .taken)))
+    let start = after-count-at .before .before .before .before .before .before in (
+      start .pre .few,
+      count-T-there (start .pre) (after-count-at .count-at .ensures) (after-count-at2 .count-at2 .ensures)
+          (after-with-count3 .with-count3 .ensures) (after-if3 .if3 .taken),
+    ))
     (λ c. search needs)
     (λ c.
     let after-lift-count2 = c .before .before in
@@ -71,7 +83,9 @@ put-count-spec =
     let after-count-at2 = after-with-count .before in
     let after-count-at = after-count-at2 .before in
     let start = after-count-at .before .before .before .before .before .before in
-    count-T-lifted (start .pre) (after-count-at .count-at .ensures) (after-count-at2 .count-at2 .ensures) (after-with-count .with-count .ensures) (after-with-count3 .with-count3 .ensures) (after-if1 .if1 .left) (after-if3 .if3 .taken) (after-lift-count2 .lift-count2 .ensures))
+    count-T-lifted (start .pre) (after-count-at .count-at .ensures) (after-count-at2 .count-at2 .ensures)
+    (after-with-count .with-count .ensures) (after-with-count3 .with-count3 .ensures) (after-if1 .if1 .left) (after-if3 .if3 .taken)
+    (after-lift-count2 .lift-count2 .ensures))
     (λ c.
     let after-with-count3 = c .before in
     let after-if1 = after-with-count3 .before in
@@ -79,4 +93,5 @@ put-count-spec =
     let after-count-at2 = after-with-count .before in
     let after-count-at = after-count-at2 .before in
     let start = after-count-at .before .before .before .before .before .before in
-    no-counts (start .pre) (after-count-at .count-at .ensures) (after-count-at2 .count-at2 .ensures) (after-with-count .with-count .ensures) (after-with-count3 .with-count3 .ensures) (after-if1 .if1 .left) (c .if3 .left)))
+    no-counts (start .pre) (after-count-at .count-at .ensures) (after-count-at2 .count-at2 .ensures) (after-with-count .with-count .ensures)
+    (after-with-count3 .with-count3 .ensures) (after-if1 .if1 .left) (c .if3 .left)))

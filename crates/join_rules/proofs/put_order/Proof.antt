@@ -1,6 +1,7 @@
 -- `put_order` meets its contract: one answer for each of the four cases.
 use native.Mathlib.Omega.{arith}
-use Rattle.join_rules.proofs.JointLaws.{places-fit, orders-pairable, orders-paired, order-S-there, order-S-lifted, order-T-there, order-T-lifted, no-orders}
+use Rattle.join_rules.proofs.JointLaws.{places-fit, orders-pairable, orders-paired, order-S-there, order-S-lifted, order-T-there}
+use Rattle.join_rules.proofs.JointLaws.{order-T-lifted, no-orders}
 use borrow.Author.Needs.{needs}
 use Rattle.join_rules.proofs.put_order.Statement.{statement}
 use Rattle.join_rules.proofs.put_order.Tie as tie
@@ -22,8 +23,11 @@ put-order-spec =
     let after-with-order2 = after-if2 .before in
     let after-if1 = after-with-order2 .before in
     let after-with-order = after-if1 .before in
-    let start = after-with-order .before .before .before .before .before .before .before .before in
-    (start .pre .0 .few, orders-pairable (start .pre .0) (after-with-order .with-order .ensures) (after-with-order2 .with-order2 .ensures) (start .pre .1) (after-if1 .if1 .taken) (after-if2 .if2 .taken)))
+    let start = after-with-order .before .before .before .before .before .before .before .before in (
+      start .pre .0 .few,
+      orders-pairable (start .pre .0) (after-with-order .with-order .ensures) (after-with-order2 .with-order2 .ensures)
+          (start .pre .1) (after-if1 .if1 .taken) (after-if2 .if2 .taken),
+    ))
     (λ c. search needs)
     (λ c.
     let after-pair-order = c .before .before in
@@ -32,7 +36,8 @@ put-order-spec =
     let after-if1 = after-with-order2 .before in
     let after-with-order = after-if1 .before in
     let start = after-with-order .before .before .before .before .before .before .before .before in
-    orders-paired (start .pre .0) (after-with-order .with-order .ensures) (after-with-order2 .with-order2 .ensures) (after-if1 .if1 .taken) (after-if2 .if2 .taken) (after-pair-order .pair-order .ensures))
+    orders-paired (start .pre .0) (after-with-order .with-order .ensures) (after-with-order2 .with-order2 .ensures) (after-if1 .if1 .taken)
+    (after-if2 .if2 .taken) (after-pair-order .pair-order .ensures))
     (λ c κs.
     let after-if1 = c .before .before .before in
     let after-with-order = after-if1 .before in
@@ -46,7 +51,8 @@ put-order-spec =
     let after-if1 = after-with-order2 .before in
     let after-with-order = after-if1 .before in
     let start = after-with-order .before .before .before .before .before .before .before .before in
-    order-S-lifted (start .pre .0) (after-with-order .with-order .ensures) (after-with-order2 .with-order2 .ensures) (after-if1 .if1 .taken) (after-if2 .if2 .left) (after-lift-order .lift-order .ensures))
+    order-S-lifted (start .pre .0) (after-with-order .with-order .ensures) (after-with-order2 .with-order2 .ensures) (after-if1 .if1 .taken)
+    (after-if2 .if2 .left) (after-lift-order .lift-order .ensures))
     (λ c κs. search needs)
     (λ c κs.
     let after-if3 = c .before in
@@ -61,10 +67,12 @@ put-order-spec =
     let after-if1 = after-with-order3 .before in
     let after-with-order = after-if1 .before in
     let start = after-with-order .before .before .before .before .before .before .before .before in
-    order-T-lifted (start .pre .0) (after-with-order .with-order .ensures) (after-with-order3 .with-order3 .ensures) (after-if1 .if1 .left) (after-if3 .if3 .taken) (after-lift-order2 .lift-order2 .ensures))
+    order-T-lifted (start .pre .0) (after-with-order .with-order .ensures) (after-with-order3 .with-order3 .ensures) (after-if1 .if1 .left)
+    (after-if3 .if3 .taken) (after-lift-order2 .lift-order2 .ensures))
     (λ c.
     let after-with-order3 = c .before in
     let after-if1 = after-with-order3 .before in
     let after-with-order = after-if1 .before in
     let start = after-with-order .before .before .before .before .before .before .before .before in
-    no-orders (start .pre .0) (after-with-order .with-order .ensures) (after-with-order3 .with-order3 .ensures) (after-if1 .if1 .left) (c .if3 .left)))
+    no-orders (start .pre .0) (after-with-order .with-order .ensures) (after-with-order3 .with-order3 .ensures) (after-if1 .if1 .left)
+    (c .if3 .left)))

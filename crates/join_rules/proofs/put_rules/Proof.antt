@@ -17,7 +17,8 @@ use Rattle.join_rules.proofs.put_rules.Tie as tie
 abbrev Inv-loop : tie.InvT-loop
 Inv-loop first firsts second seconds out₀ begin m next₀ i₀ out next i =
     InRows first firsts second seconds m
-    × Left out₀ begin (joint-words first second) out next (flatMap (rule-words (of-pairs (sizes-in first second))) (rows-from first second i))
+    × Left out₀ begin (joint-words first second) out next
+    (flatMap (rule-words (of-pairs (sizes-in first second))) (rows-from first second i))
 
 abbrev μ-loop : tie.MeasureT-loop
 μ-loop first firsts second seconds out₀ begin m next₀ i₀ out next i = m - i
@@ -42,8 +43,10 @@ put-rules-spec =
     let after-loop-test = after-spot-of .before .before in
     let after-loop = after-loop-test .before in
     let start = after-loop .before .before .before .before .before .before .before .before in
-    let walk = after-loop .loop .inv .0 in
-    (row-here walk (after-loop-test .loop-test .taken) (after-spot-of .spot-of .ensures), row-few walk (after-loop-test .loop-test .taken) (after-spot-of .spot-of .ensures) (start .pre .1)))
+    let walk = after-loop .loop .inv .0 in (
+      row-here walk (after-loop-test .loop-test .taken) (after-spot-of .spot-of .ensures),
+      row-few walk (after-loop-test .loop-test .taken) (after-spot-of .spot-of .ensures) (start .pre .1),
+    ))
     (λ c. search needs)
     (λ c.
     let after-loop-test = c .before .before .before .before .before .before in
@@ -52,7 +55,11 @@ put-rules-spec =
     let after-put-row = c .before .before in
     let after-spot-of = after-put-row .before .before in
     let after-loop-test = after-spot-of .before .before in
-    let after-loop = after-loop-test .before in
-    (after-loop .loop .inv .0, more (after-loop .loop .inv .1) (rows-words-next (after-loop .loop .inv .0) (after-loop-test .loop-test .taken) (after-spot-of .spot-of .ensures)) (after-put-row .put-row .ensures)))
+    let after-loop = after-loop-test .before in (
+      after-loop .loop .inv .0,
+      more (after-loop .loop .inv .1)
+          (rows-words-next (after-loop .loop .inv .0) (after-loop-test .loop-test .taken) (after-spot-of .spot-of .ensures))
+          (after-put-row .put-row .ensures),
+    ))
     (λ c. kept (c .before .loop .inv .1))
     (λ c. done (c .before .loop .inv .1) (rows-words-done (c .before .loop .inv .0) (c .loop-test .left))))

@@ -28,4 +28,6 @@ put-tags-spec =
     let after-field2 = after-field3 .before in
     let after-field = after-field2 .before in
     let start = after-field .before .before .before .before in
-    as-words (tag-words (start .pre .0) (start .pre .1) (after-field2 .field2 .ensures) (after-field3 .field3 .ensures) (after-field .field .ensures) (after-pair .pair .ensures .0) (after-joint-target .joint-target .ensures)) (after-copy .copy .ensures)))
+    as-words (tag-words (start .pre .0) (start .pre .1) (after-field2 .field2 .ensures) (after-field3 .field3 .ensures)
+    (after-field .field .ensures) (after-pair .pair .ensures .0) (after-joint-target .joint-target .ensures))
+    (after-copy .copy .ensures)))

@@ -19,4 +19,5 @@ put-texts-spec =
     let after-joint-target = after-copy .before .before .before in
     let after-field = after-joint-target .before in
     let start = after-field .before .before .before .before in
-    as-words (text-words (start .pre .0) (start .pre .1) (after-field .field .ensures) (after-joint-target .joint-target .ensures)) (after-copy .copy .ensures)))
+    as-words (text-words (start .pre .0) (start .pre .1) (after-field .field .ensures) (after-joint-target .joint-target .ensures))
+    (after-copy .copy .ensures)))

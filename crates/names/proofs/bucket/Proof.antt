@@ -21,6 +21,15 @@ bucket-spec =
     (λ c. search needs)
     (λ c. omega (arith, c .shared-slice-known4 .given (length (c .before .before .before .before .before .before .args .name .now) - 1)))
     (λ c. omega (arith, c .before .shared-slice-known3 .given (c .before .before .less .result)))
-    (λ c. omega (arith, c .before .before .before .shared-slice-known2 .given 0, c .before .shared-slice-known3 .given (c .before .before .less .result)))
-    (λ c. omega (arith, c .before .before .before .shared-slice-known2 .given 0, c .before .shared-slice-known3 .given (c .before .before .less .result), c .shared-slice-known4 .given (length (c .before .before .before .before .before .before .args .name .now) - 1)))
+    (λ c. omega (
+      arith,
+      c .before .before .before .shared-slice-known2 .given 0,
+      c .before .shared-slice-known3 .given (c .before .before .less .result),
+    ))
+    (λ c. omega (
+      arith,
+      c .before .before .before .shared-slice-known2 .given 0,
+      c .before .shared-slice-known3 .given (c .before .before .less .result),
+      c .shared-slice-known4 .given (length (c .before .before .before .before .before .before .args .name .now) - 1),
+    ))
     (λ c. (bucket-some _ (c .before .before .less .ensures), omega arith)))

@@ -20,7 +20,8 @@ Inv-loop list classes starts count heads₀ nexts₀ good₀ heads nexts good =
 abbrev μ-loop : tie.MeasureT-loop
 μ-loop list classes starts count heads₀ nexts₀ good₀ heads nexts good = count - good
 
-index-is : (c : tie.After-index Inv-loop μ-loop) → Indexed (c .before .before .before .before .before .args .list .now) (c .index .last .1 .0)
+index-is : (c : tie.After-index Inv-loop μ-loop) → Indexed (c .before .before .before .before .before .args .list .now)
+    (c .index .last .1 .0)
 index-is c = indexed _ _ _ (omega arith) (c .index .ensures .1)
 
 pub check-spec : {M : Type 1} → statement M
@@ -33,13 +34,27 @@ check-spec =
     (λ c κs. search needs)
     (λ c κs. search needs)
     (λ c. (omega arith, check-first _ (c .before .before .before .if1 .left), chained-none _))
-    (λ c κs. ((c .before .before .before .before .before .before .before .before .classes .ensures, index-is (c .before .before .before .before .before .before), omega arith), c .before .before .before .before .before .loop .inv .2))
+    (λ c κs. (
+      (
+        c .before .before .before .before .before .before .before .before .classes .ensures,
+        index-is (c .before .before .before .before .before .before),
+        omega arith,
+      ),
+      c .before .before .before .before .before .loop .inv .2,
+    ))
     (λ c. omega arith)
     (λ c. omega arith)
-    (λ c. said-bad _ _ (index-is (c .before .before .before .before .before .before .before .before)) _ (c .before .before .before .before .before .before .before .loop .inv .1) (omega arith) (sym (c .before .enter .ensures .0) ∙ not-true _ (c .if2 .taken)))
+    (λ c. said-bad _ _ (index-is (c .before .before .before .before .before .before .before .before)) _
+    (c .before .before .before .before .before .before .before .loop .inv .1) (omega arith)
+    (sym (c .before .enter .ensures .0) ∙ not-true _ (c .if2 .taken)))
     (λ c. omega arith)
     (λ c. omega arith)
-    (λ c. (omega arith, c .before .before .before .before .before .before .before .loop .inv .1 ∙ check-good _ _ (omega arith) (sym (c .before .enter .ensures .0) ∙ not-false _ (c .if2 .left)), c .before .enter .ensures .1 (not-false _ (c .if2 .left))))
+    (λ c. (
+      omega arith,
+      c .before .before .before .before .before .before .before .loop .inv .1 ∙ check-good _ _ (omega arith)
+          (sym (c .before .enter .ensures .0) ∙ not-false _ (c .if2 .left)),
+      c .before .enter .ensures .1 (not-false _ (c .if2 .left)),
+    ))
     (λ c. omega arith)
     (λ c. omega arith)
     (λ c. said-many _ _ (index-is (c .before .before .before)) _ (c .before .before .loop .inv .1) (omega arith) (c .if3 .taken))

@@ -17,14 +17,33 @@ enter-spec =
     (tie.spec
     (λ c. omega arith)
     (λ c κs. search needs)
-    (λ c. (sym (good-long _ _ (c .before .before .before .pre .0 .1) _ (c .before .before .before .pre .0 .2) (c .before .name-of .ensures) (c .if1 .taken)), never))
+    (λ c. (
+      sym (good-long _ _ (c .before .before .before .pre .0 .1) _ (c .before .before .before .pre .0 .2) (c .before .name-of .ensures)
+          (c .if1 .taken)),
+      never,
+    ))
     (λ c. omega arith)
     (λ c. omega arith)
     (λ c. omega (arith, indexed-cut _ _ (c .before .before .before .before .pre .0 .1) _ (c .before .before .before .before .pre .0 .2)))
-    (λ c. omega (arith, indexed-cut _ _ (c .before .before .before .before .before .pre .0 .1) _ (c .before .before .before .before .before .pre .0 .2)))
-    (λ c. (sym (good-open _ _ (c .before .before .before .before .before .before .pre .0 .1) _ (c .before .before .before .before .before .before .pre .0 .2) (c .before .before .before .before .name-of .ensures) (c .before .before .before .if1 .left) (c .if2 .taken)), never))
+    (λ c. omega (
+      arith,
+      indexed-cut _ _ (c .before .before .before .before .before .pre .0 .1) _
+          (c .before .before .before .before .before .pre .0 .2),
+    ))
+    (λ c. (
+      sym (good-open _ _ (c .before .before .before .before .before .before .pre .0 .1) _
+          (c .before .before .before .before .before .before .pre .0 .2) (c .before .before .before .before .name-of .ensures)
+          (c .before .before .before .if1 .left) (c .if2 .taken)),
+      never,
+    ))
     (λ c κs. search needs)
-    (λ c. (sym (good-unnamed _ _ (c .before .before .before .before .before .before .before .before .pre .0 .1) _ (c .before .before .before .before .before .before .before .before .pre .0 .2) (c .before .before .before .before .before .before .name-of .ensures) (c .before .before .before .before .before .if1 .left) (c .before .before .if2 .left) (sym (c .before .is-name .ensures) ∙ not-true _ (c .if3 .taken))), never))
+    (λ c. (
+      sym (good-unnamed _ _ (c .before .before .before .before .before .before .before .before .pre .0 .1) _
+          (c .before .before .before .before .before .before .before .before .pre .0 .2)
+          (c .before .before .before .before .before .before .name-of .ensures) (c .before .before .before .before .before .if1 .left)
+          (c .before .before .if2 .left) (sym (c .before .is-name .ensures) ∙ not-true _ (c .if3 .taken))),
+      never,
+    ))
     (λ c κs. search needs)
     (λ c. search needs)
     (λ c. search needs)

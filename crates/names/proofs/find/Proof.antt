@@ -17,7 +17,8 @@ Inv-loop list name at₀ passed₀ at passed = (passed ≤ at) × (tag-of list n
 abbrev μ-loop : tie.MeasureT-loop
 μ-loop list name at₀ passed₀ at passed = length list - at
 
-line-ends : (c : tie.After-line-end Inv-loop μ-loop) → Cut (c .before .before .before .before .before .args .list .now) (c .before .before .loop .at) (c .line-end .result)
+line-ends : (c : tie.After-line-end Inv-loop μ-loop) → Cut (c .before .before .before .before .before .args .list .now)
+    (c .before .before .loop .at) (c .line-end .result)
 line-ends c = line-cut _ _ _ (c .before .loop-test .taken) (c .line-end .ensures)
 
 pub find-spec : {M : Type 1} → statement M
@@ -32,8 +33,13 @@ find-spec =
     (λ c κs. search needs)
     (λ c κs. search needs)
     (λ c. search needs)
-    (λ c. sym (c .before .before .before .before .before .loop .inv .1 ∙ number-here _ _ (line-ends (c .before .before .before) .cut) (compared _ (c .before .before .bare .ensures) (c .before .same-bytes .ensures) (c .if1 .taken))))
+    (λ c. sym (c .before .before .before .before .before .loop .inv .1 ∙ number-here _ _ (line-ends (c .before .before .before) .cut)
+    (compared _ (c .before .before .bare .ensures) (c .before .same-bytes .ensures) (c .if1 .taken))))
     (λ c. search needs)
     (λ c. omega (arith, line-ends (c .before .before .before)))
-    (λ c. (omega (arith, line-ends (c .before .before .before)), c .before .before .before .before .before .loop .inv .1 ∙ number-later _ _ (line-ends (c .before .before .before) .cut) (compared _ (c .before .before .bare .ensures) (c .before .same-bytes .ensures) (c .if1 .left))))
+    (λ c. (
+      omega (arith, line-ends (c .before .before .before)),
+      c .before .before .before .before .before .loop .inv .1 ∙ number-later _ _ (line-ends (c .before .before .before) .cut)
+          (compared _ (c .before .before .bare .ensures) (c .before .same-bytes .ensures) (c .if1 .left)),
+    ))
     (λ c. sym (c .before .loop .inv .1 ∙ number-none _ _ (lines-end _ _ (c .loop-test .left)))))

@@ -24,10 +24,14 @@ find-chained-spec =
     (λ c. sym (c .before .before .loop .inv ∙ along-end _ _ _ _ _ _ (c .before .loop-test .taken) (c .if1 .taken)))
     (λ c κs. search needs)
     (λ c κs. search needs)
-    (λ c. sym (c .before .before .before .before .before .loop .inv ∙ along-here _ _ _ _ _ _ (c .before .before .before .before .loop-test .taken) (c .before .before .before .if1 .left) (compared _ (c .before .before .name-of .ensures) (c .before .same-bytes .ensures) (c .if2 .taken))))
+    (λ c. sym (c .before .before .before .before .before .loop .inv ∙ along-here _ _ _ _ _ _
+    (c .before .before .before .before .loop-test .taken) (c .before .before .before .if1 .left)
+    (compared _ (c .before .before .name-of .ensures) (c .before .same-bytes .ensures) (c .if2 .taken))))
     (λ c. omega (arith, is-tag (c .before .before .before .before .before .loop .tag) (c .before .before .before .if1 .left)))
     (λ c. omega (arith, is-tag (c .before .before .before .before .before .loop .tag) (c .before .before .before .if1 .left)))
     (λ c. omega arith)
     (λ c. omega arith)
-    (λ c. c .before .before .before .before .before .before .loop .inv ∙ along-on _ _ _ _ _ _ (c .before .before .before .before .before .loop-test .taken) (c .before .before .before .before .if1 .left) (compared _ (c .before .before .before .name-of .ensures) (c .before .before .same-bytes .ensures) (c .before .if2 .left)))
+    (λ c. c .before .before .before .before .before .before .loop .inv ∙ along-on _ _ _ _ _ _
+    (c .before .before .before .before .before .loop-test .taken) (c .before .before .before .before .if1 .left)
+    (compared _ (c .before .before .before .name-of .ensures) (c .before .before .same-bytes .ensures) (c .before .if2 .left)))
     (λ c. sym (c .before .loop .inv ∙ along-none _ _ _ _ _ _ (c .loop-test .left))))

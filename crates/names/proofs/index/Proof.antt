@@ -27,11 +27,18 @@ index-spec =
     (λ c. (omega arith, begins-first _, rw sub-zero))
     (λ c. omega arith)
     (λ c. omega arith)
-    (λ c. write-last _ _ _ _ _ (c .before .before .loop .inv .1) (c .before .before .loop .inv .2) (omega (arith, begins-none _ _ _ (c .before .before .loop .inv .1) (c .if1 .taken))))
+    (λ c. write-last _ _ _ _ _ (c .before .before .loop .inv .1) (c .before .before .loop .inv .2)
+    (omega (arith, begins-none _ _ _ (c .before .before .loop .inv .1) (c .if1 .taken))))
     (λ c κs. search needs)
     (λ c. omega arith)
     (λ c. omega arith)
-    (λ c. (omega arith, begins-next _ _ _ (c .before .before .before .loop .inv .1) _ (line-cut _ _ _ (c .before .if1 .left) (c .line-end .ensures)), write-next _ _ _ _ _ (c .before .before .before .loop .inv .1) (c .before .before .before .loop .inv .2) (omega (arith, begins-some _ _ _ (c .before .before .before .loop .inv .1) (c .before .if1 .left)))))
+    (λ c. (
+      omega arith,
+      begins-next _ _ _ (c .before .before .before .loop .inv .1) _
+          (line-cut _ _ _ (c .before .if1 .left) (c .line-end .ensures)),
+      write-next _ _ _ _ _ (c .before .before .before .loop .inv .1) (c .before .before .before .loop .inv .2)
+          (omega (arith, begins-some _ _ _ (c .before .before .before .loop .inv .1) (c .before .if1 .left))),
+    ))
     (λ c. omega arith)
     (λ c. omega arith)
     (λ c. write-last _ _ _ _ _ (c .before .loop .inv .1) (c .before .loop .inv .2) (omega arith)))

@@ -23,8 +23,16 @@ line-end-spec =
     (λ c. omega arith)
     (λ c. omega arith)
     (λ c. omega arith)
-    (λ c. omega (arith, line-fed (c .before .before .before .before .args .list .now) (c .before .before .before .loop .i) (c .before .before .loop-test .taken) (c .if1 .taken)))
+    (λ c. omega (
+      arith,
+      line-fed (c .before .before .before .before .args .list .now) (c .before .before .before .loop .i)
+          (c .before .before .loop-test .taken) (c .if1 .taken),
+    ))
     (λ c. omega arith)
     (λ c. omega arith)
-    (λ c. omega (arith, line-goes-on (c .before .before .before .before .args .list .now) (c .before .before .before .loop .i) (c .before .before .loop-test .taken) (c .if1 .left)))
+    (λ c. omega (
+      arith,
+      line-goes-on (c .before .before .before .before .args .list .now) (c .before .before .before .loop .i)
+          (c .before .before .loop-test .taken) (c .if1 .left),
+    ))
     (λ c. omega (arith, line-none (c .before .before .args .list .now) (c .before .loop .i) (c .loop-test .left))))

@@ -28,6 +28,7 @@ scan-form-spec =
     (λ c κs. search needs)
     (λ c. rw (c .refusal-of .ensures)
     (c .before .before .before .root .ensures _
-    (c .before .before .before .before .before .before .before .before .before .before .before .before .before .before .args .words .now) (c .before .before .before .before .before .before .before .before .before .before .before .before .before .before .pre .1 .1) .stopped (c .before .if1 .taken)))
+    (c .before .before .before .before .before .before .before .before .before .before .before .before .before .before .args .words .now)
+    (c .before .before .before .before .before .before .before .before .before .before .before .before .before .before .pre .1 .1) .stopped (c .before .if1 .taken)))
     (λ c κs. (c .before .before .before .before .before .before .before .before .before .before .before .before .before .before .before .classes .ensures, (listing (c .before .before .before .before .before .before .before .before .before .before .before .before .before), (c .before .before .before .before .before .before .before .before .before .chain .ensures, c .before .before .before .before .before .before .before .root .ensures _ _ (c .before .before .before .before .before .before .before .before .before .before .before .before .before .before .before .before .before .before .pre .1 .1) .on (c .before .before .before .before .before .if1 .left)))))
     (λ c. c .element .ensures))

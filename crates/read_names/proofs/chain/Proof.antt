@@ -33,5 +33,12 @@ chain-spec =
     (λ c. omega arith)
     (λ c. omega arith)
     (λ c. omega arith)
-    (λ c. (omega arith, chained-more (c .before .before .before .before .loop .inv .1) (omega arith) (c .before .bucket .ensures .0 ∙ ap bucket (c .before .before .name-of .ensures ∙ name-is _ _ (c .before .before .before .before .before .before .pre .0) _ (omega arith) (omega arith))) (c .before .bucket .ensures .1)))
-    (λ c. let e : line-count (c .before .before .before .args .list .now) ≡ c .before .loop .chained = omega arith in rw e (c .before .loop .inv .1)))
+    (λ c. (
+      omega arith,
+      chained-more (c .before .before .before .before .loop .inv .1) (omega arith)
+          (c .before .bucket .ensures .0 ∙ ap bucket
+          (c .before .before .name-of .ensures ∙ name-is _ _ (c .before .before .before .before .before .before .pre .0) _ (omega arith)
+          (omega arith))) (c .before .bucket .ensures .1),
+    ))
+    (λ c. let e : line-count (c .before .before .before .args .list .now) ≡ c .before .loop .chained = omega arith in rw e
+    (c .before .loop .inv .1)))

@@ -13,4 +13,7 @@ find-spec =
     (λ c. search needs)
     (λ c. search needs)
     (λ c κs. search needs)
-    (λ c. found-tag (c .before .before .before .before .before .pre .0 .checked) (found (c .before .before .before .before .before .pre .0 .indexed) (omega arith) (c .before .before .before .before .before .pre .1) _ (c .before .before .bucket .ensures .0) (c .before .before .bucket .ensures .1) (c .find-chained .ensures))))
+    (λ c. found-tag (c .before .before .before .before .before .pre .0 .checked)
+    (found (c .before .before .before .before .before .pre .0 .indexed) (omega arith)
+    (c .before .before .before .before .before .pre .1) _ (c .before .before .bucket .ensures .0)
+    (c .before .before .bucket .ensures .1) (c .find-chained .ensures))))

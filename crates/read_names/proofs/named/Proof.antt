@@ -18,6 +18,11 @@ named-spec =
     (λ c. search needs)
     (λ c. omega (arith, c .before .before .before .pre .1 .0))
     (λ c κs. search needs)
-    (λ c. sym (named-else (c .before .before .before .before .before .before .args .text .now) (c .before .before .before .before .before .before .args .at) _ (c .before .before .before .before .before .before .pre .1 .1) (c .before .same-bytes .ensures) (not-true _ (c .if2 .taken))))
+    (λ c. sym (named-else (c .before .before .before .before .before .before .args .text .now)
+    (c .before .before .before .before .before .before .args .at) _ (c .before .before .before .before .before .before .pre .1 .1)
+    (c .before .same-bytes .ensures) (not-true _ (c .if2 .taken))))
     (λ c κs. search needs)
-    (λ c. sym (named-so (c .before .before .before .before .before .before .before .args .text .now) (c .before .before .before .before .before .before .before .args .at) _ (c .before .before .before .before .before .before .before .pre .1 .1) (c .before .before .same-bytes .ensures) (not-false _ (c .before .if2 .left)) _ (c .class-at .ensures))))
+    (λ c. sym (named-so (c .before .before .before .before .before .before .before .args .text .now)
+    (c .before .before .before .before .before .before .before .args .at) _
+    (c .before .before .before .before .before .before .before .pre .1 .1) (c .before .before .same-bytes .ensures)
+    (not-false _ (c .before .if2 .left)) _ (c .class-at .ensures))))

@@ -11,7 +11,14 @@ past-white-spec =
     tie.close
     (tie.spec
     (λ c κs. search needs)
-    (λ c. (omega (arith, no-white-run (c .before .before .before .args .text .now) (c .before .before .before .args .at) (λ e. c .if1 .taken (c .before .class-at .ensures ∙ e))), (search needs, c .before .class-at .ensures)))
+    (λ c. (
+      omega (
+        arith,
+        no-white-run (c .before .before .before .args .text .now) (c .before .before .before .args .at)
+            (λ e. c .if1 .taken (c .before .class-at .ensures ∙ e)),
+      ),
+      (search needs, c .before .class-at .ensures),
+    ))
     (λ c κs. search needs)
     (λ c κs. search needs)
     (λ c. (c .before .skip .ensures .0, (c .before .skip .ensures .1, c .class-at2 .ensures))))

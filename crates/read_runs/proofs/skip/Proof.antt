@@ -11,7 +11,8 @@ use Rattle.read_runs.proofs.skip.Statement.{statement}
 use Rattle.read_runs.proofs.skip.Tie as tie
 
 abbrev Inv-loop : tie.InvT-loop
-Inv-loop classes text at low high i₀ i = (at ≤ i) × (i ≤ length text) × (i + run (class-within low high) (drop i text) ≡ at + run (class-within low high) (drop at text))
+Inv-loop classes text at low high i₀ i = (at ≤ i) × (i ≤ length text) ×
+    (i + run (class-within low high) (drop i text) ≡ at + run (class-within low high) (drop at text))
 
 abbrev μ-loop : tie.MeasureT-loop
 μ-loop classes text at low high i₀ i = length text - i
@@ -25,8 +26,22 @@ skip-spec =
     (λ c. (omega arith, omega arith, refl))
     (λ c. search needs)
     (λ c κs. search needs)
-    (λ c. (run-stops _ (c .before .before .before .before .before .before .args .text .now) _ (c .before .before .before .before .loop .inv .2) (c .before .before .before .loop-test .taken) (within-by _ _ _ _ (c .before .class-in .ensures) ∙ not-true _ (c .if1 .taken)), (omega arith, omega arith)))
+    (λ c. (
+      run-stops _ (c .before .before .before .before .before .before .args .text .now) _
+          (c .before .before .before .before .loop .inv .2) (c .before .before .before .loop-test .taken)
+          (within-by _ _ _ _ (c .before .class-in .ensures) ∙ not-true _ (c .if1 .taken)),
+      (omega arith, omega arith),
+    ))
     (λ c. search needs)
     (λ c. search needs)
-    (λ c. (omega arith, omega arith, run-passes _ (c .before .before .before .before .before .before .args .text .now) _ (c .before .before .before .before .loop .inv .2) (c .before .before .before .loop-test .taken) (within-by _ _ _ _ (c .before .class-in .ensures) ∙ not-false _ (c .if1 .left))))
-    (λ c. (run-ends _ (c .before .before .before .args .text .now) _ (c .before .loop .inv .2) (c .loop-test .left), (omega arith, omega arith))))
+    (λ c. (
+      omega arith,
+      omega arith,
+      run-passes _ (c .before .before .before .before .before .before .args .text .now) _
+          (c .before .before .before .before .loop .inv .2) (c .before .before .before .loop-test .taken)
+          (within-by _ _ _ _ (c .before .class-in .ensures) ∙ not-false _ (c .if1 .left)),
+    ))
+    (λ c. (
+      run-ends _ (c .before .before .before .args .text .now) _ (c .before .loop .inv .2) (c .loop-test .left),
+      (omega arith, omega arith),
+    )))

@@ -33,5 +33,12 @@ text-block-spec =
     (λ c κs. search needs)
     (λ c. search needs)
     (λ c. search needs)
-    (λ c. (omega arith, ap₂ _&&_ (c .before .before .before .loop .inv .1) (c .in-text .ensures) ∙ sym (every-last text-byte (c .before .before .before .before .before .args .text .now) (c .before .before .before .before .before .args .at) (c .before .before .before .loop .i) (omega arith))))
-    (λ c. let e : c .before .loop .i ≡ 16 = omega arith in c .before .loop .inv .1 ∙ ap (λ (i : ℕ). every text-byte (take i (drop (c .before .before .before .args .at) (c .before .before .before .args .text .now)))) e))
+    (λ c. (
+      omega arith,
+      ap₂ _&&_ (c .before .before .before .loop .inv .1)
+          (c .in-text .ensures) ∙ sym (every-last text-byte (c .before .before .before .before .before .args .text .now)
+          (c .before .before .before .before .before .args .at) (c .before .before .before .loop .i) (omega arith)),
+    ))
+    (λ c. let e : c .before .loop .i ≡ 16 = omega arith in c .before .loop .inv .1 ∙
+    ap (λ (i : ℕ). every text-byte (take i (drop (c .before .before .before .args .at) (c .before .before .before .args .text .now))))
+    e))

@@ -26,8 +26,22 @@ text-bytes-spec =
     (λ c. (omega arith, omega arith, refl))
     (λ c. omega arith)
     (λ c κs. search needs)
-    (λ c. ((omega arith, omega arith), (c .before .before .before .before .loop .inv .2, λ h. run-stops _ (c .before .before .before .before .before .before .args .text .now) _ (c .before .before .before .before .loop .inv .2) (omega arith) (text-by _ _ (c .before .class-in .ensures) ∙ not-true _ (c .if1 .taken)))))
+    (λ c. (
+      (omega arith, omega arith),
+      (
+        c .before .before .before .before .loop .inv .2,
+        λ h. run-stops _ (c .before .before .before .before .before .before .args .text .now) _
+            (c .before .before .before .before .loop .inv .2) (omega arith)
+            (text-by _ _ (c .before .class-in .ensures) ∙ not-true _ (c .if1 .taken)),
+      ),
+    ))
     (λ c. omega arith)
     (λ c. omega arith)
-    (λ c. (omega arith, omega arith, run-passes _ (c .before .before .before .before .before .before .args .text .now) _ (c .before .before .before .before .loop .inv .2) (omega arith) (text-by _ _ (c .before .class-in .ensures) ∙ not-false _ (c .if1 .left))))
+    (λ c. (
+      omega arith,
+      omega arith,
+      run-passes _ (c .before .before .before .before .before .before .args .text .now) _
+          (c .before .before .before .before .loop .inv .2) (omega arith)
+          (text-by _ _ (c .before .class-in .ensures) ∙ not-false _ (c .if1 .left)),
+    ))
     (λ c. ((omega arith, omega arith), (c .before .loop .inv .2, λ h. absurd (omega arith)))))

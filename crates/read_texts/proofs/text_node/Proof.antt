@@ -23,13 +23,16 @@ text-node-spec =
     tie.close
     (tie.spec
     (λ c κs. search needs)
-    (λ c. λ list r. rw (c .refused .ensures) (after-refused (omega arith) (text-many r (c .before .before .before .pre .1 .1 .0) (c .before .before .before .pre .1 .1 .1) (omega arith))))
+    (λ c. λ list r. rw (c .refused .ensures)
+    (after-refused (omega arith) (text-many r (c .before .before .before .pre .1 .1 .0) (c .before .before .before .pre .1 .1 .1)
+    (omega arith))))
     (λ c κs. search needs)
     (λ c κs. search needs)
     (λ c κs. search needs)
     (λ c. λ list r.
     rw (c .stopped .ensures) (after-stopped (c .before .before .class-at .result)
-    (text-stuck r (c .before .before .before .before .before .before .pre .1 .1 .0) (c .before .before .before .before .before .before .pre .1 .1 .1) (c .before .before .before .before .if1 .left) _ _
+    (text-stuck r (c .before .before .before .before .before .before .pre .1 .1 .0)
+    (c .before .before .before .before .before .before .pre .1 .1 .1) (c .before .before .before .before .if1 .left) _ _
     (c .before .before .before .text-end .ensures .0) (c .before .before .class-at .ensures) (c .before .if2 .taken))))
     (λ c κs. (c .before .before .before .before .before .pre .0, c .before .before .text-end .ensures .1))
     (λ c. search needs)
@@ -62,5 +65,6 @@ text-node-spec =
     let word = rw (symbol-is (c .before .before)) at (c .before .packed .ensures) in
     rw (c .on .ensures) (after-on (
       text-later r (solid .0) (solid .1) few _ _ ends told less,
-      text-read r (solid .0) (solid .1) few _ _ ends told less _ (trims .0 .0) (trims .0 .1) (trims .1) _ _ (c .before .before .before .kind-of .ensures) word,
+      text-read r (solid .0) (solid .1) few _ _ ends told less _ (trims .0 .0) (trims .0 .1) (trims .1) _ _
+          (c .before .before .before .kind-of .ensures) word,
     ))))

@@ -29,7 +29,8 @@ rooted g t = tag-symbol g (symbol-at t 0) && eqb (size-at t 0) (length t / 4)
 
 some-node : (t : List ℕ) → Yes (counted t) → 1 ≤ length t / 4
 some-node t y =
-    leb-true 1 (length t / 4) (and-right (eqb (length t % 4) 0) (leb 1 (length t / 4)) (and-left (eqb (length t % 4) 0 && leb 1 (length t / 4)) (leb (length t / 4) 4096) y))
+    leb-true 1 (length t / 4) (and-right (eqb (length t % 4) 0) (leb 1 (length t / 4))
+    (and-left (eqb (length t % 4) 0 && leb 1 (length t / 4)) (leb (length t / 4) 4096) y))
 
 module _ (g : ℕ) (t : List ℕ) where
   miscounted : counted t ≡ false → tree-said g t ≡ refusal 10 (length t / 4)
@@ -54,7 +55,8 @@ module _ (g : ℕ) (t : List ℕ) where
       let n : suc (sizeD d) ≡ length t / 4 = omega (arith, children-fill t g 31 1 (length t / 4) false d a (omega arith) e) in
       rw (by-children h k, e, n)
 
-  broken-said : {p : ℕ} → Yes (counted t) → Yes (rooted g t) → shape-at t g 31 1 (length t / 4) false ≡ Broken p → tree-said g t ≡ refusal 10 p
+  broken-said : {p : ℕ} → Yes (counted t) → Yes (rooted g t) → shape-at t g 31 1
+      (length t / 4) false ≡ Broken p → tree-said g t ≡ refusal 10 p
   unfolding tree-said answer-of
   broken-said {p} h k b =
       let (m, e) = broken-inv _ b in
@@ -62,7 +64,9 @@ module _ (g : ℕ) (t : List ℕ) where
       rw (r, tree-refuses g t r)
 
 -- node 0 stands, by the tests of the code
-root-stands : (c : tie.Else2) → Yes (rooted (c .before .before .before .before .before .before .before .args .tags) (c .before .before .before .before .before .before .before .args .tree .now))
+root-stands : (c : tie.Else2) → Yes
+    (rooted (c .before .before .before .before .before .before .before .args .tags)
+    (c .before .before .before .before .before .before .before .args .tree .now))
 root-stands c = not-false _ (rw (c .before .before .before .is-tag .ensures, c .before .wide .ensures) at (c .if2 .left))
 
 pub check-spec : {M : Type 1} → statement M
@@ -73,12 +77,20 @@ check-spec =
     (λ c. sym (miscounted _ _ (not-true _ (c .if1 .taken))))
     (λ c. omega (arith, some-node (c .before .before .before .args .tree .now) (not-false _ (c .before .if1 .left))))
     (λ c κs. search needs)
-    (λ c. omega (arith, some-node (c .before .before .before .before .before .args .tree .now) (not-false _ (c .before .before .before .if1 .left))))
+    (λ c. omega (
+      arith,
+      some-node (c .before .before .before .before .before .args .tree .now)
+          (not-false _ (c .before .before .before .if1 .left)),
+    ))
     (λ c κs. search needs)
-    (λ c. sym (unrooted _ _ (not-false _ (c .before .before .before .before .before .if1 .left)) (not-true _ (rw (c .before .before .before .is-tag .ensures, c .before .wide .ensures) at (c .if2 .taken)))))
+    (λ c. sym (unrooted _ _ (not-false _ (c .before .before .before .before .before .if1 .left))
+    (not-true _ (rw (c .before .before .before .is-tag .ensures, c .before .wide .ensures) at (c .if2 .taken)))))
     (λ c. search needs)
     (λ c κs. search needs)
     (λ c. search needs)
     (λ c. search needs)
-    (λ c. sym (whole-said _ _ (not-false _ (c .before .before .before .before .before .before .before .before .if1 .left)) (root-stands (c .before .before .before)) (sym (c .before .before .children .ensures) ∙ c .enum-told .given .1)))
-    (λ c. sym (broken-said _ _ (not-false _ (c .before .before .before .before .before .before .before .before .before .if1 .left)) (root-stands (c .before .before .before .before)) (sym (c .before .before .before .children .ensures) ∙ c .before .place .given .1))))
+    (λ c. sym (whole-said _ _ (not-false _ (c .before .before .before .before .before .before .before .before .if1 .left))
+    (root-stands (c .before .before .before)) (sym (c .before .before .children .ensures) ∙ c .enum-told .given .1)))
+    (λ c. sym (broken-said _ _ (not-false _ (c .before .before .before .before .before .before .before .before .before .if1 .left))
+    (root-stands (c .before .before .before .before))
+    (sym (c .before .before .before .children .ensures) ∙ c .before .place .given .1))))

@@ -23,8 +23,14 @@ abbrev μ-loop : tie.MeasureT-loop
 -- a node adds less than 2³² bytes
 below : (c : tie.After-own-bytes Inv-loop μ-loop) → c .own-bytes .result < 4294967296
 below c =
-    let tag = node-tag (c .before .before .before .before .before .before .before .before .before .pre) (c .before .before .before .before .loop-test .taken) (c .before .before .before .node-at .ensures) in
-    omega (arith, c .own-bytes .ensures, own-bound (c .before .before .before .before .before .before .before .before .before .args .list .now) (c .before .before .before .node-at .result) (omega arith) (λ a h. tag-short (tag a h)))
+    let tag = node-tag (c .before .before .before .before .before .before .before .before .before .pre)
+    (c .before .before .before .before .loop-test .taken) (c .before .before .before .node-at .ensures) in
+    omega (
+      arith,
+      c .own-bytes .ensures,
+      own-bound (c .before .before .before .before .before .before .before .before .before .args .list .now)
+          (c .before .before .before .node-at .result) (omega arith) (λ a h. tag-short (tag a h)),
+    )
 
 pub measure-spec : {M : Type 1} → statement M
 unfolding said said-refusal answer-of
@@ -36,10 +42,18 @@ measure-spec =
     (λ c. (search needs, search needs, rw sub-zero))
     (λ c κs. search needs)
     (λ c κs. search needs)
-    (λ c. rw (c .before .before .before .before .loop .inv .2 ∙ measured-stop _ _ _ _ _ _ (c .before .before .before .loop-test .taken) (c .before .before .node-at .ensures) (sym (c .before .good-words .ensures) ∙ not-true _ (c .if1 .taken))))
-    (λ c κs. node-tag (c .before .before .before .before .before .before .before .before .pre) (c .before .before .before .loop-test .taken) (c .before .before .node-at .ensures))
+    (λ c. rw (c .before .before .before .before .loop .inv .2 ∙ measured-stop _ _ _ _ _ _ (c .before .before .before .loop-test .taken)
+    (c .before .before .node-at .ensures) (sym (c .before .good-words .ensures) ∙ not-true _ (c .if1 .taken))))
+    (λ c κs. node-tag (c .before .before .before .before .before .before .before .before .pre) (c .before .before .before .loop-test .taken)
+    (c .before .before .node-at .ensures))
     (λ c. omega (arith, below c, c .before .before .before .before .before .before .before .before .before .pre .few))
     (λ c. search needs)
     (λ c. search needs)
-    (λ c. (search needs, omega (arith, below c), c .before .before .before .before .before .loop .inv .2 ∙ measured-next _ _ _ _ _ _ (c .before .before .before .before .loop-test .taken) (c .before .before .before .node-at .ensures) (sym (c .before .before .good-words .ensures) ∙ not-false _ (c .before .if1 .left)) (c .own-bytes .ensures)))
+    (λ c. (
+      search needs,
+      omega (arith, below c),
+      c .before .before .before .before .before .loop .inv .2 ∙ measured-next _ _ _ _ _ _
+          (c .before .before .before .before .loop-test .taken) (c .before .before .before .node-at .ensures)
+          (sym (c .before .before .good-words .ensures) ∙ not-false _ (c .before .if1 .left)) (c .own-bytes .ensures),
+    ))
     (λ c. rw (c .before .loop .inv .2 ∙ measured-end _ _ _ _ _ _ (c .loop-test .left))))

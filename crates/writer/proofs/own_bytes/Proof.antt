@@ -15,18 +15,30 @@ own-bytes-spec =
     (tie.spec
     (λ c κs. search needs)
     (λ c. search needs)
-    (λ c κs. c .before .before .before .before .before .pre _ (means (c .before .before .before .symbol-of .ensures) (c .before .tag .given .1)))
+    (λ c κs. c .before .before .before .before .before .pre _
+    (means (c .before .before .before .symbol-of .ensures) (c .before .tag .given .1)))
     (λ c. search needs)
     (λ c.
-    let own = own-empty (c .before .before .before .before .before .before .before .before .args .list .now) (c .before .before .before .before .before .before .before .before .args .node) (means (c .before .before .before .before .before .before .symbol-of .ensures) (c .before .before .before .before .tag .given .1)) (c .if1 .taken) in
+    let own = own-empty (c .before .before .before .before .before .before .before .before .args .list .now)
+    (c .before .before .before .before .before .before .before .before .args .node)
+    (means (c .before .before .before .before .before .before .symbol-of .ensures) (c .before .before .before .before .tag .given .1))
+    (c .if1 .taken) in
     omega (arith, own, ap length (c .before .before .name-of .ensures)))
     (λ c. search needs)
-    (λ c. omega (arith, tag-short (c .before .before .before .before .before .before .before .before .pre _ (means (c .before .before .before .before .before .before .symbol-of .ensures) (c .before .before .before .before .tag .given .1))), ap length (c .before .before .name-of .ensures)))
+    (λ c. omega (
+      arith,
+      tag-short (c .before .before .before .before .before .before .before .before .pre _
+          (means (c .before .before .before .before .before .before .symbol-of .ensures) (c .before .before .before .before .tag .given .1))),
+      ap length (c .before .before .name-of .ensures),
+    ))
     (λ c. search needs)
     (λ c. search needs)
     (λ c. search needs)
     (λ c.
-    let own = own-pair (c .before .before .before .before .before .before .before .before .args .list .now) (c .before .before .before .before .before .before .before .before .args .node) (means (c .before .before .before .before .before .before .symbol-of .ensures) (c .before .before .before .before .tag .given .1)) (c .if1 .left) in
+    let own = own-pair (c .before .before .before .before .before .before .before .before .args .list .now)
+    (c .before .before .before .before .before .before .before .before .args .node)
+    (means (c .before .before .before .before .before .before .symbol-of .ensures) (c .before .before .before .before .tag .given .1))
+    (c .if1 .left) in
     omega (arith, own, ap length (c .before .before .name-of .ensures)))
     (λ c. sym (own-text _ _ (means (c .before .before .before .symbol-of .ensures) (c .before .enum-told .given .1))))
     (λ c. sym (own-nothing _ _ (means (c .before .before .symbol-of .ensures) (c .enum-told2 .given .1)))))

@@ -10,7 +10,8 @@ use Rattle.writer.proofs.put.Statement.{statement}
 use Rattle.writer.proofs.put.Tie as tie
 
 abbrev Inv-loop : tie.InvT-loop
-Inv-loop out₀ at bytes i₀ out i = (i ≤ length bytes) × (length out ≡ length out₀) × (stored out (at + i) (drop i bytes) ≡ stored out₀ at bytes)
+Inv-loop out₀ at bytes i₀ out i = (i ≤ length bytes) × (length out ≡ length out₀) ×
+    (stored out (at + i) (drop i bytes) ≡ stored out₀ at bytes)
 
 abbrev μ-loop : tie.MeasureT-loop
 μ-loop out₀ at bytes i₀ out i = length bytes - i
@@ -27,7 +28,11 @@ put-spec =
     (λ c. search needs)
     (λ c. search needs)
     (λ c. search needs)
-    (λ c. (search needs, simp length-set (search needs), sym (copy-next _ _ _ _ (c .before .loop-test .taken)) ∙ c .before .before .loop .inv .2))
+    (λ c. (
+      search needs,
+      simp length-set (search needs),
+      sym (copy-next _ _ _ _ (c .before .loop-test .taken)) ∙ c .before .before .loop .inv .2,
+    ))
     (λ c. search needs)
     (λ c. search needs)
     (λ c. record { next-is = search needs; buffer = sym (copy-end _ _ _ _ (c .loop-test .left)) ∙ c .before .loop .inv .2 }))

@@ -20,10 +20,18 @@ put-empty-tag-spec =
     (tie.spec
     (λ c. search needs)
     (λ c. search needs)
-    (λ c κs. room-name (c .before .before .before .args .name .now) (47 ∷ 62 ∷ []) (put-byte (c .before .before .before .args .out .now) _ 60) (c .before .before .before .pre))
+    (λ c κs. room-name (c .before .before .before .args .name .now) (47 ∷ 62 ∷ [])
+    (put-byte (c .before .before .before .args .out .now) _ 60) (c .before .before .before .pre))
     (λ c. omega (arith, room c))
     (λ c. search needs)
     (λ c. rw length-set (omega (arith, room c)))
-    (λ c. omega (arith, room c, put-length (put-then (put-byte (c .before .before .before .before .before .before .args .out .now) (c .before .before .before .before .before .before .args .at) 60) (c .before .before .put .ensures))))
-    (λ c. put-length (put-then (put-byte (c .before .before .before .before .before .before .args .out .now) (c .before .before .before .before .before .before .args .at) 60) (put-then (c .before .before .put .ensures) (put-two _ _ 47 62))))
+    (λ c. omega (
+      arith,
+      room c,
+      put-length
+          (put-then (put-byte (c .before .before .before .before .before .before .args .out .now)
+          (c .before .before .before .before .before .before .args .at) 60) (c .before .before .put .ensures)),
+    ))
+    (λ c. put-length (put-then (put-byte (c .before .before .before .before .before .before .args .out .now)
+    (c .before .before .before .before .before .before .args .at) 60) (put-then (c .before .before .put .ensures) (put-two _ _ 47 62))))
     (λ c. put-then (put-byte _ _ _) (put-then (c .before .before .put .ensures) (put-two _ _ _ _))))

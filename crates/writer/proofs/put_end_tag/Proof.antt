@@ -15,8 +15,15 @@ put-end-tag-spec =
     (λ c. search needs)
     (λ c. rw length-set (omega (arith, length-append (c .before .before .args .name .now) (62 ∷ []))))
     (λ c. search needs)
-    (λ c κs. room-name (c .before .before .before .args .name .now) (62 ∷ []) (put-two (c .before .before .before .args .out .now) _ 60 47) (c .before .before .before .pre))
-    (λ c. omega (arith, room-tail _ (62 ∷ []) (put-two (c .before .before .before .before .before .before .args .out .now) _ 60 47) (c .before .before .before .before .before .before .pre) (c .before .before .put .ensures)))
+    (λ c κs. room-name (c .before .before .before .args .name .now) (62 ∷ []) (put-two (c .before .before .before .args .out .now) _ 60 47)
+    (c .before .before .before .pre))
+    (λ c. omega (
+      arith,
+      room-tail _ (62 ∷ []) (put-two (c .before .before .before .before .before .before .args .out .now) _ 60 47)
+          (c .before .before .before .before .before .before .pre) (c .before .before .put .ensures),
+    ))
     (λ c. search needs)
-    (λ c. put-length (put-then (put-two (c .before .before .before .before .before .before .args .out .now) (c .before .before .before .before .before .before .args .at) 60 47) (put-then (c .before .before .put .ensures) (put-byte _ _ 62))))
+    (λ c. put-length (put-then (put-two (c .before .before .before .before .before .before .args .out .now)
+    (c .before .before .before .before .before .before .args .at) 60 47)
+    (put-then (c .before .before .put .ensures) (put-byte _ _ 62))))
     (λ c. put-then (put-two _ _ _ _) (put-then (c .before .before .put .ensures) (put-byte _ _ _))))

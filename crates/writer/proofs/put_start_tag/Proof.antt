@@ -12,8 +12,14 @@ put-start-tag-spec =
     (tie.spec
     (λ c. search needs)
     (λ c. search needs)
-    (λ c κs. room-name (c .before .before .before .args .name .now) (62 ∷ []) (put-byte (c .before .before .before .args .out .now) _ 60) (c .before .before .before .pre))
-    (λ c. omega (arith, room-tail _ (62 ∷ []) (put-byte (c .before .before .before .before .before .before .args .out .now) _ 60) (c .before .before .before .before .before .before .pre) (c .before .before .put .ensures)))
+    (λ c κs. room-name (c .before .before .before .args .name .now) (62 ∷ []) (put-byte (c .before .before .before .args .out .now) _ 60)
+    (c .before .before .before .pre))
+    (λ c. omega (
+      arith,
+      room-tail _ (62 ∷ []) (put-byte (c .before .before .before .before .before .before .args .out .now) _ 60)
+          (c .before .before .before .before .before .before .pre) (c .before .before .put .ensures),
+    ))
     (λ c. search needs)
-    (λ c. put-length (put-then (put-byte (c .before .before .before .before .before .before .args .out .now) (c .before .before .before .before .before .before .args .at) 60) (put-then (c .before .before .put .ensures) (put-byte _ _ 62))))
+    (λ c. put-length (put-then (put-byte (c .before .before .before .before .before .before .args .out .now)
+    (c .before .before .before .before .before .before .args .at) 60) (put-then (c .before .before .put .ensures) (put-byte _ _ 62))))
     (λ c. put-then (put-byte _ _ _) (put-then (c .before .before .put .ensures) (put-byte _ _ _))))

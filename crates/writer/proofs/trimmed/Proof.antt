@@ -29,11 +29,19 @@ trimmed-spec =
     (λ c. search needs)
     (λ c. search needs)
     (λ c κs. search needs)
-    (λ c. sym (trimmed-white _ (omega arith) (rw (c .before .before .before .is-white .ensures, c .before .is-white2 .ensures) at (c .if2 .taken))))
+    (λ c. sym (trimmed-white _ (omega arith)
+    (rw (c .before .before .before .is-white .ensures, c .before .is-white2 .ensures) at (c .if2 .taken))))
     (λ c. search needs)
     (λ c. search needs)
     (λ c κs. search needs)
     (λ c. search needs)
     (λ c. search needs)
-    (λ c. (search needs, flag-next text-byte _ _ (c .before .before .before .loop .good) (c .before .before .before .loop .inv .1) (c .before .before .loop-test .taken) (c .in-text .ensures)))
-    (λ c. sym (trimmed-solid _ (omega arith) (rw (c .before .before .before .before .before .is-white .ensures, c .before .before .before .is-white2 .ensures) at (c .before .before .if2 .left)) ∙ flag-end text-byte _ _ (c .before .loop .good) (c .before .loop .inv .1) (c .loop-test .left))))
+    (λ c. (
+      search needs,
+      flag-next text-byte _ _ (c .before .before .before .loop .good) (c .before .before .before .loop .inv .1)
+          (c .before .before .loop-test .taken) (c .in-text .ensures),
+    ))
+    (λ c. sym (trimmed-solid _ (omega arith)
+    (rw (c .before .before .before .before .before .is-white .ensures, c .before .before .before .is-white2 .ensures)
+    at (c .before .before .if2 .left)) ∙ flag-end text-byte _ _ (c .before .loop .good) (c .before .loop .inv .1)
+    (c .loop-test .left))))

@@ -13,7 +13,8 @@ use Rattle.writer.proofs.write.Tie as tie
 passed : (c : tie.After-starts2)
     → let a = c .before .before .before .before .before .before .before .before .before .before .before .before .before .before .before .before .args in
     let tags = c .before .before .before .before .before .before .before .before .before .tags .given .0 .0 in
-    Passed (a .list .now) (c .before .index .last .1 .0) (a .text .now) (a .tree .now) tags (c .before .before .before .before .nodes .given .0 .0)
+    Passed (a .list .now) (c .before .index .last .1 .0) (a .text .now) (a .tree .now) tags
+    (c .before .before .before .before .nodes .given .0 .0)
 passed c =
     let named = c .before .before .before .before .before .before .before .before .before in
     let shaped = c .before .before .before .before in
@@ -35,19 +36,36 @@ write-spec =
     (λ c. search needs)
     (λ c. search needs)
     (λ c. says-names _ _ _ _ (c .before .before .before .check .ensures) (c .before .refusal .given .1))
-    (λ c. says-text _ _ _ _ (names-counted _ (c .before .before .before .before .check .ensures) (c .before .before .tags .given .1)) (c .if1 .taken))
-    (λ c. omega (arith, few-names _ _ (names-counted _ (c .before .before .before .before .check .ensures) (c .before .before .tags .given .1))))
+    (λ c. says-text _ _ _ _ (names-counted _ (c .before .before .before .before .check .ensures) (c .before .before .tags .given .1))
+    (c .if1 .taken))
+    (λ c. omega (
+      arith,
+      few-names _ _
+          (names-counted _ (c .before .before .before .before .check .ensures) (c .before .before .tags .given .1)),
+    ))
     (λ c κs. search needs)
     (λ c. search needs)
     (λ c. search needs)
-    (λ c. says-tree _ _ _ _ (names-counted _ (c .before .before .before .before .before .before .before .before .check .ensures) (c .before .before .before .before .before .before .tags .given .1)) (c .before .before .before .before .if1 .left) (c .before .before .before .check2 .ensures) (c .before .refusal2 .given .1))
+    (λ c. says-tree _ _ _ _ (names-counted _ (c .before .before .before .before .before .before .before .before .check .ensures)
+    (c .before .before .before .before .before .before .tags .given .1)) (c .before .before .before .before .if1 .left)
+    (c .before .before .before .check2 .ensures) (c .before .refusal2 .given .1))
     (λ c κs. search needs)
     (λ c κs. passed-tags (passed c))
     (λ c. search needs)
     (λ c. search needs)
-    (λ c. says-words _ _ _ _ (passed (c .before .before .before .before)) (c .before .before .before .measure .ensures) (c .before .refusal3 .given .1))
-    (λ c. says-long _ _ _ _ (passed (c .before .before .before .before .before)) (c .before .before .before .before .measure .ensures) (c .before .before .bytes .given .1) (c .if2 .taken))
-    (λ c. says-short _ _ _ _ (passed (c .before .before .before .before .before .before)) (c .before .before .before .before .before .measure .ensures) (c .before .before .before .bytes .given .1) (c .before .if2 .left) (c .if3 .taken))
-    (λ c κs. root-ready _ _ _ _ (passed (c .before .before .before .before .before .before .before .before)) (c .before .before .before .before .before .before .before .measure .ensures) (c .before .before .before .before .before .bytes .given .1) (c .before .before .if3 .left))
+    (λ c. says-words _ _ _ _ (passed (c .before .before .before .before)) (c .before .before .before .measure .ensures)
+    (c .before .refusal3 .given .1))
+    (λ c. says-long _ _ _ _ (passed (c .before .before .before .before .before)) (c .before .before .before .before .measure .ensures)
+    (c .before .before .bytes .given .1) (c .if2 .taken))
+    (λ c. says-short _ _ _ _ (passed (c .before .before .before .before .before .before))
+    (c .before .before .before .before .before .measure .ensures) (c .before .before .before .bytes .given .1) (c .before .if2 .left)
+    (c .if3 .taken))
+    (λ c κs. root-ready _ _ _ _ (passed (c .before .before .before .before .before .before .before .before))
+    (c .before .before .before .before .before .before .before .measure .ensures)
+    (c .before .before .before .before .before .bytes .given .1) (c .before .before .if3 .left))
     (λ c. search needs)
-    (λ c. says-written _ _ _ _ (passed (c .before .before .before .before .before .before .before .before .before .before .before)) (c .before .before .before .before .before .before .before .before .before .before .measure .ensures) (c .before .before .before .before .before .before .before .before .bytes .given .1) (c .before .before .before .before .before .before .if2 .left) (c .before .before .before .before .before .if3 .left) (c .before .before .put-children .ensures)))
+    (λ c. says-written _ _ _ _ (passed (c .before .before .before .before .before .before .before .before .before .before .before))
+    (c .before .before .before .before .before .before .before .before .before .before .measure .ensures)
+    (c .before .before .before .before .before .before .before .before .bytes .given .1)
+    (c .before .before .before .before .before .before .if2 .left) (c .before .before .before .before .before .if3 .left)
+    (c .before .before .put-children .ensures)))

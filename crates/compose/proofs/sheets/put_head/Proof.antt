@@ -33,4 +33,6 @@ put-head-spec =
     let after-at2 = after-copy .before .before .before in
     let after-at = after-at2 .before in
     let start = after-at .before .before .before .before in
-    as-words (head-made (start .pre) (after-at .at .ensures) (after-at2 .at2 .ensures) (after-joint-finals .joint-finals .ensures) (after-at3 .at3 .ensures)) (then (after-copy .copy .ensures) (then (after-put-set .put-set .ensures) (after-copy2 .copy2 .ensures)))))
+    as-words (head-made (start .pre) (after-at .at .ensures) (after-at2 .at2 .ensures) (after-joint-finals .joint-finals .ensures)
+    (after-at3 .at3 .ensures)) (then (after-copy .copy .ensures)
+    (then (after-put-set .put-set .ensures) (after-copy2 .copy2 .ensures)))))

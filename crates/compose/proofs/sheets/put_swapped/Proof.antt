@@ -24,4 +24,5 @@ put-swapped-spec =
     let after-at = after-complement .before in
     let after-set-at = after-at .before in
     let start = after-set-at .before .before .before in
-    as-words (swapped-words (start .pre) (after-set-at .set-at .ensures) (after-at .at .ensures) (after-complement .complement .ensures)) (then (after-copy .copy .ensures) (then (after-put-set .put-set .ensures) (after-copy2 .copy2 .ensures)))))
+    as-words (swapped-words (start .pre) (after-set-at .set-at .ensures) (after-at .at .ensures) (after-complement .complement .ensures))
+    (then (after-copy .copy .ensures) (then (after-put-set .put-set .ensures) (after-copy2 .copy2 .ensures)))))
