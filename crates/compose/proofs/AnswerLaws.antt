@@ -64,16 +64,16 @@ pub sheet-counts : (s : List ℕ) {r : Answer} {n : ℕ} → said r ≡ sheet-sa
 sheet-counts s e c = let (l, (t, p)) = sheet-counted s e c in (passes-in p .0, l)
 
 -- a sheet that passes has its index at the front of the buffer
-pub sheet-indexed : (s old : List ℕ) {index : List ℕ} {r : Answer} {n : ℕ} → said r ≡ sheet-said s → index ≡ index-after old s → r ≡ Count
-    n → Indexed s index
+pub sheet-indexed : (s old : List ℕ) {index : List ℕ} {r : Answer} {n : ℕ} → said r ≡ sheet-said s → index ≡ index-after old s → r
+    ≡ Count n → Indexed s index
 unfolding index-after buffer-after _>>=_
 sheet-indexed s old {index} e ei c =
     let ok = sheet-counts s e c .0 in
     let ws = index-words (sheet-in s) in
     let is : index ≡ ws ++ drop (length ws) old
     = ei ∙ ap (λ (x : Checked Sheet). buffer-after old (x >>= λ t. passes (index-words t))) (ok .as-sheet) in
-    let rest : drop (length ws) index ≡ drop (length ws) old = ap (drop (length ws)) is ∙ drop-at ws (drop (length ws) old)
-    (length ws) refl in
+    let rest : drop (length ws) index ≡ drop (length ws) old
+    = ap (drop (length ws)) is ∙ drop-at ws (drop (length ws) old) (length ws) refl in
     record { sheet = ok; there = record { stands = is ∙ ap (λ (l : List ℕ). ws ++ l) (sym rest); ends = omega arith } }
 
 -- ---- swap
@@ -135,8 +135,8 @@ module _ (j : Sheet) (out : List ℕ) where
       fits = rw (tests.le-leb (length (sheet-words j)) 16384 (omega (arith, long)))
 
       fitted-short : length out < n → Gives out (fitted j (length out)) (refusal 22 n) out
-      fitted-short l = subst (λ (m : ℕ). Gives out (fitted j (length out)) (refusal 22 m) out) long
-          (gives-short out (sheet-words j) fits (rw long l))
+      fitted-short l =
+          subst (λ (m : ℕ). Gives out (fitted j (length out)) (refusal 22 m) out) long (gives-short out (sheet-words j) fits (rw long l))
 
       fitted-long : {y : List ℕ} {i : ℕ} → n ≤ length out → Writes out 0 (sheet-words j) y i → Gives out (fitted j (length out)) (count i) y
       fitted-long l w = gives-words out (sheet-words j) fits (omega (arith, long)) (omega (arith, long)) w
@@ -163,8 +163,8 @@ module _ (j : Sheet) (out : List ℕ) where
               let z : _≡_ {A = ℕ} 0 1 = cc same in
               absurd (omega arith)
 
-      pub fitted-words : {k : ℕ} → q ≡ Count k → {y : List ℕ} {i : ℕ} → Writes out 0 (sheet-words j) y i → Gives out (fitted j (length out))
-          (count i) y
+      pub fitted-words : {k : ℕ} → q ≡ Count k → {y : List ℕ} {i : ℕ} → Writes out 0 (sheet-words j) y i
+          → Gives out (fitted j (length out)) (count i) y
       unfolding said
       fitted-words {k} c {y} {i} w = go (told (leb n 16384)) (told (leb n (length out)))
         where
@@ -177,8 +177,8 @@ module _ (j : Sheet) (out : List ℕ) where
               let z : _≡_ {A = ℕ} 0 1 = cc same in
               absurd (omega arith)
           go (yea t) (nay s) =
-              let same : count k ≡ refusal 22 n = says ∙
-              sym (words-short n (length out) (tests.leb-true n 16384 t) (tests.leb-false n (length out) s)) in
+              let same : count k ≡ refusal 22 n
+              = says ∙ sym (words-short n (length out) (tests.leb-true n 16384 t) (tests.leb-false n (length out) s)) in
               let z : _≡_ {A = ℕ} 0 1 = cc same in
               absurd (omega arith)
           go (yea t) (yea s) = fitted-long (tests.leb-true n 16384 t) (tests.leb-true n (length out) s) w
@@ -194,8 +194,8 @@ module _ (j : Sheet) (out : List ℕ) where
     limited-over h = let h′ : first-place (j .rules) < 6 = omega arith in gives-refusal out (rw (limits-over j few h′, e))
 
     pub limited-within : 6 ≤ k → {x : Said} {y : List ℕ} → Gives out (fitted j (length out)) x y → Gives out (limited j (length out)) x y
-    limited-within h = gives-by (ap (λ (c : Checked (Unit {0})). c >> lent (sheet-words j) (length out))
-        (limits-within j few (omega arith)))
+    limited-within h =
+        gives-by (ap (λ (c : Checked (Unit {0})). c >> lent (sheet-words j) (length out)) (limits-within j few (omega arith)))
 
 -- ---- join: its checks in their order
 
@@ -218,8 +218,8 @@ module _ (first second : List ℕ) (room : ℕ) where
       unfolding join joined in-second _>>=_ _>>_ require
       join-checks h = rw (p, q, tests.eq-eqb (s .tags) (t .tags) h) (go (within-limits (joint s t)))
         where
-          go : (c : Checked (Unit {0})) → ((c >> passes (joint s t)) >>= λ j. lent (sheet-words j) room) ≡ c >> lent
-              (sheet-words (joint s t)) room
+          go : (c : Checked (Unit {0})) → ((c >> passes (joint s t)) >>= λ j. lent (sheet-words j) room)
+              ≡ c >> lent (sheet-words (joint s t)) room
           go (passes u) = refl
           go (refuses n i) = refl
 
@@ -280,6 +280,6 @@ unfolding said-refusal
 nine-place e f = let g : refusal 9 _ ≡ refusal 9 _ = sym (ap said-refusal f) ∙ e in cc
 
 -- and its place is at most the most words of a sheet
-pub second-place : (ws : List ℕ) {r : Answer} {x : Refusal} → said r ≡ sheet-said ws → r ≡ Error x → (i : ℕ) ×
-    (said-refusal x ≡ refusal 9 i) × (i ≤ 16384)
+pub second-place : (ws : List ℕ) {r : Answer} {x : Refusal} → said r ≡ sheet-said ws → r ≡ Error x → (i : ℕ)
+    × (said-refusal x ≡ refusal 9 i) × (i ≤ 16384)
 second-place ws e c = let (i, p, f) = sheet-refused ws e c in (i, f, refused-place ws p)

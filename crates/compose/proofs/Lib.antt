@@ -1,4 +1,3 @@
 mod LimitChecks
-mod SheetWords
 mod AnswerLaws
 pub mod Claims

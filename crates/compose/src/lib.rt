@@ -5,11 +5,12 @@ ghost use Rattle.model.specs.Answers.{refusal, said, said-refusal};
 ghost use Rattle.model.specs.Index.{Indexed};
 ghost use Rattle.model.specs.Calls.{swap-said, swap-out, join-said, join-out};
 ghost use Rattle.join_alike.specs.Alike.{Joinable};
-ghost use Rattle.compose.specs.Joins.{WithinLimits, Fits, Limits};
-
-mod sheets;
-
+ghost use Rattle.join_sheets.specs.Sheets.{WithinLimits};
+ghost use Rattle.compose.specs.Joins.{Fits, Limits};
 use join_limits::tally_rules;
+use join_sheets::joint_length;
+use join_sheets::put_joint;
+use join_sheets::put_swapped;
 use layout::INDEX_WORDS;
 use layout::MOST_STATES;
 use layout::STATES;
@@ -21,9 +22,6 @@ use page::PLACE_STATES;
 use page::PLACE_WORDS;
 use page::check_words;
 use parts::at;
-use sheets::joint_length;
-use sheets::put_joint;
-use sheets::put_swapped;
 
 // the place of a refusal of T's words is that of T's check plus this
 const SECOND: usize = 20000;

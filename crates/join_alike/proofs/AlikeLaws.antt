@@ -51,8 +51,8 @@ paired n p q (one k s) (one j t) h i e = (one k (pair (n .of-T) s t), rw e (text
 paired n p q (one k s) (two b d t) h i e = absurd (omega (arith, h .1, i .0))
 paired n p q (one k s) (three u ψ t) h i e = absurd (omega (arith, h .0))
 paired n p q (two a c s) (one j t) h i e = absurd (omega (arith, h .0, i .1))
-paired n p q (two a c s) (two b d t) h i e = let f : b ≡ a = omega arith in
-    (two a (pair (n .of-T) c d) (pair (n .of-T) s t), rw f (tags a c d s t))
+paired n p q (two a c s) (two b d t) h i e =
+    let f : b ≡ a = omega arith in (two a (pair (n .of-T) c d) (pair (n .of-T) s t), rw f (tags a c d s t))
 paired n p q (two a c s) (three u ψ t) h i e = absurd (omega (arith, h .0))
 paired n p q (three o φ s) (one j t) h i e = absurd (omega (arith, i .0))
 paired n p q (three o φ s) (two b d t) h i e = absurd (omega (arith, i .0))
@@ -67,8 +67,8 @@ paired-rule (contents o u φ ψ s t) = refl
 -- ---- two spots
 
 -- the spots x and y of two rules with one key
-pub alike-paired : {u v : List ℕ} {n : Sizes} {r : RulePair} → Alike u v n r → (z : Rule) × JointOf (sizes-of n) (rule-of u (r .s))
-    (rule-of v (r .t)) z
+pub alike-paired : {u v : List ℕ} {n : Sizes} {r : RulePair} → Alike u v n r → (z : Rule)
+    × JointOf (sizes-of n) (rule-of u (r .s)) (rule-of v (r .t)) z
 alike-paired {u} {v} {n} {r} h =
     paired (sizes-of n) (sheet-in u .states) (sheet-in v .states) (rule-of u (r .s)) (rule-of v (r .t)) (h .first .begins .ranges)
     (h .second .begins .ranges) (h .one-key)
@@ -96,8 +96,8 @@ pub record InRow (u v index : List ℕ) (x : Spot) (n : Sizes) (m j : ℕ) : Typ
   pub number : length (rules-in v) ≡ m
   pub has-key : j < length (rules-in v) → key (nth (rules-in v) j) ≡ key (rule-of u x)
 
-pub row-begun : {u v index : List ℕ} {x : Spot} → RowOf u v index x →
-    (n : Sizes) → n .s ≡ getD u 1 0 → n .t ≡ getD v 1 0 → {w m j : ℕ} → w ≡ getD v 5 0
+pub row-begun : {u v index : List ℕ} {x : Spot} → RowOf u v index x → (n : Sizes) → n .s ≡ getD u 1 0 → n .t ≡ getD v 1 0 → {w m j : ℕ}
+    → w ≡ getD v 5 0
     → m ≡ w → j ≡ getD index (key (rule-of u x)) 0 → key (rule-of u x) < 67 → InRow u v index x n m j × (row-in u v x ≡ row-from u v x j)
 row-begun {u} {v} {x = x} h n es et ew em e l =
     let s = es ∙ states-word (h .first) in

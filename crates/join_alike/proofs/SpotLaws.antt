@@ -26,8 +26,8 @@ spot-found {s} h {k} l {x} e =
     }
 
 -- the entry after ENTRIES + k, as the code reads it
-pub spot-made : (index : List ℕ) (k : ℕ) {v w a b t : ℕ} → v ≡ getD index (67 + k) 0 → w ≡ getD index
-    (68 + k) 0 → a ≡ v % 2 ^ 16 → b ≡ w % 2 ^ 16 → t ≡ b - 1
+pub spot-made : (index : List ℕ) (k : ℕ) {v w a b t : ℕ} → v ≡ getD index (67 + k) 0 → w ≡ getD index (68 + k) 0 → a ≡ v % 2 ^ 16 → b
+    ≡ w % 2 ^ 16 → t ≡ b - 1
     → SpotIn index k (record { rule = k; at = a; target = t })
 spot-made index k ev ew ea eb et =
     let same : 68 + k ≡ 67 + (k + 1) = omega arith in

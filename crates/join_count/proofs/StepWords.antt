@@ -18,7 +18,7 @@ use Rattle.model.specs.Spans.{SumAt, StepAt}
 use Rattle.model.proofs.PartLaws.{words-from, words-end}
 use Rattle.model.proofs.Tests.{Told, yea, nay, told, same, eqb-no}
 use Rattle.parts.specs.Lengths.{step-length}
-use Rattle.join_count.proofs.SumWords.{sum-length-is}
+use Rattle.join_count.proofs.SumWords.{sum-long}
 
 -- a step that begins with a sum: as many words follow as its kind says
 pub record SumStep (p : ℕ) (s : List ℕ) (a : ℕ) (x : Step) : Type 0 where
@@ -139,26 +139,26 @@ module _ {p a : ℕ} {s : List ℕ} where
   -- lifted, from the words that the code reads
   module _ (side : Side) (n : Sizes) (shift : ℕ) {x : Step} (h : StepAt p s a x) {k i : ℕ}
       (ek : k ≡ getD s a 0) (ei : i ≡ getD s (a + 1) 0) where
-    pub one-shifted : k ≡ 3 → k ∷ (shift + i) ∷ [] ≡ step-words (of-pairs n) (lift-step side n shift x)
-    one-shifted e = rw (ek, ei) (sym (one-number x h (sym ek ∙ e) .lifted side n shift))
+    pub shifted-one : k ≡ 3 → k ∷ (shift + i) ∷ [] ≡ step-words (of-pairs n) (lift-step side n shift x)
+    shifted-one e = rw (ek, ei) (sym (one-number x h (sym ek ∙ e) .lifted side n shift))
 
-    pub two-shifted : {j : ℕ} → 2 < getD s a 0 → k ≢ 3 → j ≡ getD s (a + 2) 0
+    pub shifted-two : {j : ℕ} → 2 < getD s a 0 → k ≢ 3 → j ≡ getD s (a + 2) 0
         → k ∷ (shift + i) ∷ (shift + j) ∷ [] ≡ step-words (of-pairs n) (lift-step side n shift x)
-    two-shifted l d ej = rw (ek, ei, ej) (sym (two-numbers x h l (λ e. d (ek ∙ e)) .lifted side n shift))
+    shifted-two l d ej = rw (ek, ei, ej) (sym (two-numbers x h l (λ e. d (ek ∙ e)) .lifted side n shift))
 
   -- its length, as the code tells it
-  pub step-length-is : p ≤ 64 → {x : Step} → StepAt p s a x → step-length s a ≡ length (step-words p x)
+  pub step-long : p ≤ 64 → {x : Step} → StepAt p s a x → step-length s a ≡ length (step-words p x)
   unfolding step-length
-  step-length-is few {x} h = go (told (leb (getD s a 0) 2)) (told (eqb (getD s a 0) 3))
+  step-long few {x} h = go (told (leb (getD s a 0) 2)) (told (eqb (getD s a 0) 3))
     where
       go : Told (leb (getD s a 0) 2) → Told (eqb (getD s a 0) 3) → step-length s a ≡ length (step-words p x)
       go (yea t) u =
           let v = sum-step x h (tests.leb-true (getD s a 0) 2 t) in
           let two : a + 1 + 1 ≡ a + 2 = omega arith in
-          let long = rw two at (sum-length-is few (v .sum)) in
+          let long = rw two at (sum-long few (v .sum)) in
           rw t (omega (arith, long, ap length (v .words), length-append (sum-words p (v .coefficients)) (v .tail), v .long))
       go (nay t) (yea u) = rw (t, u) (sym (one-number x h (same (getD s a 0) 3 u) .long))
       go (nay t) (nay u) = rw (t, u) (sym (two-numbers x h (tests.leb-false (getD s a 0) 2 t) (eqb-no u) .long))
 
-  pub step-within : p ≤ 64 → {x : Step} → StepAt p s a x → a + step-length s a ≤ length s
-  step-within few h = omega (arith, step-length-is few h, step-there h)
+  pub step-end : p ≤ 64 → {x : Step} → StepAt p s a x → a + step-length s a ≤ length s
+  step-end few h = omega (arith, step-long few h, step-there h)

@@ -176,28 +176,28 @@ module _ {p a : ℕ} {s : List ℕ} {cs : List Coefficient} (few : p ≤ 64) (h 
   high-word = word-here (span-right (sum-set % W ∷ []) (sum-set / W ∷ times-words cs) (h .there))
 
   -- there are as many coefficients as marks
-  pub sum-length-is : sum-length (getD s a 0) (getD s (a + 1) 0) ≡ length (sum-words p cs)
+  pub sum-long : sum-length (getD s a 0) (getD s (a + 1) 0) ≡ length (sum-words p cs)
   unfolding sum-words set-words sum-length
-  sum-length-is =
+  sum-long =
       let below : SetBelow 64 (marks cs)
       = record { ascends = h .ranges .marked .ascends; below = λ q i. let l = h .ranges .marked .below q i in omega arith } in
       let all : members 64 (sum-set % W + sum-set / W * W) ≡ marks cs
       = stands-members (words-stand p (marks cs) few (h .ranges .marked) refl) below in
       rw (low-word, high-word, all) (omega (arith, length-map cs (λ c. c .state), length-map cs (λ c. signed-word (c .times))))
 
-  pub sum-within : a + sum-length (getD s a 0) (getD s (a + 1) 0) ≤ length s
+  pub sum-end : a + sum-length (getD s a 0) (getD s (a + 1) 0) ≤ length s
   unfolding sum-words set-words
-  sum-within = omega (arith, sum-length-is, words-within (h .there) (omega arith), h .there .ends)
+  sum-end = omega (arith, sum-long, words-within (h .there) (omega arith), h .there .ends)
 
   pub sum-of : {set long : ℕ} → set ≡ getD s a 0 + getD s (a + 1) 0 * W → long ≡ sum-length (getD s a 0) (getD s (a + 1) 0)
       → SumOf p s a cs (record { marks = set; from = a + 2; to = a + long })
   unfolding sum-words set-words
   sum-of {set} {long} es el =
       let body = span-right (sum-set % W ∷ sum-set / W ∷ []) (times-words cs) (h .there) in
-      let last : a + long ≡ h .end = omega (arith, sum-length-is, h .there .ends) in
+      let last : a + long ≡ h .end = omega (arith, sum-long, h .there .ends) in
       record {
         marks = omega (arith, low-word, high-word);
-        words = ap (λ (e : ℕ). slice (a + 2) e s) last ∙ words-from body (omega (arith, sum-within, sum-length-is));
+        words = ap (λ (e : ℕ). slice (a + 2) e s) last ∙ words-from body (omega (arith, sum-end, sum-long));
         ends = last ∙ h .there .ends;
       }
 

@@ -65,8 +65,8 @@ LiftsSum side n s h Written =
 -- ---- steps
 
 -- how many states the steps' sheet has, and how many pairs there are
-abbrev pub own-states : Lift → ℕ
-own-states l = of-side (side-of (l .side)) (sizes-of (l .sizes))
+abbrev pub states-of : Lift → ℕ
+states-of l = of-side (side-of (l .side)) (sizes-of (l .sizes))
 
 abbrev pub pairs-of : Lift → ℕ
 pairs-of l = of-pairs (sizes-of (l .sizes))
@@ -77,17 +77,17 @@ pub record SmallLift (l : Lift) : Type 0 where
 
 -- a step over the sheet's states
 abbrev pub SomeStep : Lift → List ℕ → ℕ → Type 0
-SomeStep l s a = (x : Step) × StepAt (own-states l) s a x
+SomeStep l s a = (x : Step) × StepAt (states-of l) s a x
 
 -- what is written of a step, and of the steps of a count part
 abbrev pub lifts : Lift → Step → Step
 lifts l = lift-step (side-of (l .side)) (sizes-of (l .sizes)) (l .shift)
 
 abbrev pub LiftsStep : Lift → List ℕ → ℕ → (List ℕ → Type 0) → Type 0
-LiftsStep l s a Written = (x : Step) → StepAt (own-states l) s a x → Written (step-words (pairs-of l) (lifts l x))
+LiftsStep l s a Written = (x : Step) → StepAt (states-of l) s a x → Written (step-words (pairs-of l) (lifts l x))
 
 abbrev pub LiftsSteps : Lift → List ℕ → ℕ → (List ℕ → Type 0) → Type 0
-LiftsSteps l s c Written = (ss : List Step) → CountAt (own-states l) s c ss → Written (flatMap (step-words (pairs-of l)) (map (lifts l) ss))
+LiftsSteps l s c Written = (ss : List Step) → CountAt (states-of l) s c ss → Written (flatMap (step-words (pairs-of l)) (map (lifts l) ss))
 
 -- and of the steps of two
 abbrev pub both-lifted : Sizes → (ss ts : List Step) → List ℕ

@@ -9,7 +9,7 @@ ghost use Rattle.join_pairs.specs.Sides.{side-of, sizes-of, FewPairs};
 ghost use Rattle.join_count.specs.Sums.{lifted-times};
 ghost use Rattle.join_count.specs.Counts.{SomeCount, LiftsCount, JoinsCounts};
 ghost use Rattle.join_count.specs.Counts.{times-in, SomeSum, FindsSum, FoundSum, LiftsSum};
-ghost use Rattle.join_count.specs.Counts.{SmallLift, own-states, SomeStep, LiftsStep, LiftsSteps, LiftsBoth};
+ghost use Rattle.join_count.specs.Counts.{SmallLift, states-of, SomeStep, LiftsStep, LiftsSteps, LiftsBoth};
 use join_pairs::Places;
 use join_pairs::Side;
 use join_pairs::Sizes;
@@ -138,7 +138,7 @@ fn lift_step(words: &[u32], a: usize, lift: Lift, out: &mut [u32], at: usize) ->
 
 // Writes the steps of the count part at `c`, lifted.
 fn lift_steps(words: &[u32], c: usize, lift: Lift, out: &mut [u32], at: usize) -> usize
-    requires { ⌜ SmallLift lift × SomeCount (own-states lift) (now words) c ⌝ }
+    requires { ⌜ SmallLift lift × SomeCount (states-of lift) (now words) c ⌝ }
     ensures { λ r. ⌜ LiftsSteps lift (now (words .entry)) c (λ ws. Writes (now (out .entry)) at ws (now (out .exit)) r) ⌝ }
 {
     let n = parts::at(words, c);

@@ -97,8 +97,8 @@ steps-word h = word-here (h .there)
 
 module _ {s : List ℕ} {x : Spot} (h : SpotOf s x) where
   module _ {r : Bool} (e : r ≡ there-is (parts-of (rule-of s x) .count)) where
-    pub steps-there : r ≡ true → {c w : ℕ} → c ≡ x .at + 1 + length
-        (order-part (parts-of (rule-of s x) .order)) → w ≡ getD s c 0 → w ≡ steps-of (rule-of s x)
+    pub steps-there : r ≡ true → {c w : ℕ} → c ≡ x .at + 1 + length (order-part (parts-of (rule-of s x) .order)) → w ≡ getD s c 0 → w
+        ≡ steps-of (rule-of s x)
     steps-there t at f =
         let (ss, i) = is-there (parts-of (rule-of s x) .count) (sym e ∙ t) in
         f ∙ steps-word (count-here h at i) ∙ ap count-steps (sym i) ∙ by-count (rule-of s x)
@@ -164,11 +164,11 @@ joint-positions : (n : model.Sizes) (p q : ℕ) (o u : Option Order) → IfAny (
 unfolding joint-order lift-order pair-order
 joint-positions n p q none none h k = refl
 joint-positions n p q none (some u) h k = refl
-joint-positions n p q (some o) none h k = first-alone (o .positions) 0 (o .positions) 0 (o .positions * 0)
-    (omega (arith, h .some-positions)) refl
+joint-positions n p q (some o) none h k =
+    first-alone (o .positions) 0 (o .positions) 0 (o .positions * 0) (omega (arith, h .some-positions)) refl
 joint-positions n p q (some o) (some u) h k =
-    both-there (o .positions) (u .positions) (o .positions) (u .positions) (o .positions * u .positions) (omega (arith, h .some-positions))
-    (omega (arith, k .some-positions))
+    both-there (o .positions) (u .positions) (o .positions) (u .positions) (o .positions * u .positions)
+    (omega (arith, h .some-positions)) (omega (arith, k .some-positions))
 
 joint-arcs : (n : model.Sizes) (p q : ℕ) (o u : Option Order) → IfAny (OrderInRange p) o → IfAny (OrderInRange q) u
     → order-arcs (joint-order n o u)
@@ -203,7 +203,8 @@ joint-steps n p q (some ss) (some ts) h k =
       length-append lower (upper ++ last),
       length-append upper last,
       length-map ss (lift-step S n 0),
-      length-map ts (lift-step T n (length ss)),
+      length-map ts
+          (lift-step T n (length ss)),
     ) in
     long ∙ both-there (length ss) (length ts) (length ss) (length ts) (length ss + length ts + 1) (omega (arith, h .some-steps))
     (omega (arith, k .some-steps))
@@ -212,8 +213,8 @@ joint-steps n p q (some ss) (some ts) h k =
 
 -- its numbers, by those of the two
 record JointExtent (n : model.Sizes) (x y z : Rule) : Type 0 where
-  positions : positions-of z ≡ of-parts (positions-of x) (positions-of y) (positions-of x) (positions-of y)
-      (positions-of x * positions-of y)
+  positions : positions-of z
+      ≡ of-parts (positions-of x) (positions-of y) (positions-of x) (positions-of y) (positions-of x * positions-of y)
   arcs : arcs-of z ≡ of-parts (positions-of x) (positions-of y) (arcs-of x * n .of-T) (arcs-of y * n .of-S) (arcs-of x * arcs-of y)
   steps : steps-of z ≡ of-parts (steps-of x) (steps-of y) (steps-of x) (steps-of y) (steps-of x + steps-of y + 1)
 
@@ -242,8 +243,8 @@ and-true true = refl
 and-true false = refl
 
 -- the place of one rule
-one-place : (z : Rule) {m n k l : ℕ} → m ≡ positions-of z → n ≡ arcs-of z → k ≡ steps-of z → l ≡ first-of (leb m 64) (leb n 1024)
-    (leb k 32) → l ≡ place-in (z ∷ [])
+one-place : (z : Rule) {m n k l : ℕ} → m ≡ positions-of z → n ≡ arcs-of z → k ≡ steps-of z → l
+    ≡ first-of (leb m 64) (leb n 1024) (leb k 32) → l ≡ place-in (z ∷ [])
 unfolding place-in every
 one-place z {m} {n} {k} em en ek e = e ∙ sym (rw (← em, ← en, ← ek, and-true (leb m 64), and-true (leb n 1024), and-true (leb k 32)))
 
@@ -256,10 +257,10 @@ module _ {u v : List ℕ} {n : Sizes} {r : RulePair} (h : Alike u v n r) {x y : 
   pair-tallied em ea ek e =
       let (z, w) = alike-paired h in
       let all = joint-extent (sheet-in u .states) (sheet-in v .states) w (h .first .begins .ranges) (h .second .begins .ranges) in
-      let m = em ∙ like (i .positions) (j .positions) (i .positions) (j .positions)
-      (ap₂ (_*_) (i .positions) (j .positions)) ∙ sym (all .positions) in
+      let m = em ∙ like (i .positions) (j .positions) (i .positions) (j .positions) (ap₂ (_*_) (i .positions) (j .positions)) ∙ sym
+      (all .positions) in
       let a = ea ∙ like (i .positions) (j .positions) (ap (λ (b : ℕ). b * n .t) (i .arcs)) (ap (λ (b : ℕ). b * n .s) (j .arcs))
       (ap₂ (_*_) (i .arcs) (j .arcs)) ∙ sym (all .arcs) in
-      let k = ek ∙ like (i .steps) (j .steps) (i .steps) (j .steps)
-      (ap₂ (λ (b c : ℕ). b + c + 1) (i .steps) (j .steps)) ∙ sym (all .steps) in
+      let k = ek ∙ like (i .steps) (j .steps) (i .steps) (j .steps) (ap₂ (λ (b c : ℕ). b + c + 1) (i .steps) (j .steps)) ∙ sym
+      (all .steps) in
       rw (paired-rule w) (record { rules = refl; place = one-place z m a k e })

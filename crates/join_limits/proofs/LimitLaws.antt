@@ -81,8 +81,8 @@ pub tally-begun : {rs rest : List Rule} → rs ≡ rest → TallyLeft rs (record
 tally-begun {rs} e = rw (← e) (record { rules = omega arith; place = omega (arith, place-in-most rs); most = omega arith })
 
 module _ {rs : List Rule} {t : Tally} {rest : List Rule} (h : TallyLeft rs t rest) where
-  pub tally-more : {u v : List Rule} {s r : Tally} → rest ≡ u ++ v → TallyOf u s → r .rules ≡ t .rules + s .rules → r .place ≡ min
-      (t .place) (s .place)
+  pub tally-more : {u v : List Rule} {s r : Tally} → rest ≡ u ++ v → TallyOf u s → r .rules ≡ t .rules + s .rules → r .place
+      ≡ min (t .place) (s .place)
       → TallyLeft rs r v
   tally-more {u} {v} {s} {r} e k er ep = record {
     rules = omega (arith, h .rules, ap length e, length-append u v, k .rules);
@@ -91,11 +91,8 @@ module _ {rs : List Rule} {t : Tally} {rest : List Rule} (h : TallyLeft rs t res
   }
 
   pub tally-done : rest ≡ [] → TallyOf rs t
-  tally-done e = record {
-    rules = omega (arith, h .rules, ap length e);
-    place =
-        omega (arith, h .place, ap place-in e, place-in-none, h .most);
-  }
+  tally-done e =
+      record { rules = omega (arith, h .rules, ap length e); place = omega (arith, h .place, ap place-in e, place-in-none, h .most) }
 
   pub tally-many : 1024 < t .rules → Tallied rs t
   tally-many l = record { many = λ _. omega (arith, h .rules); few = λ k. absurd (omega arith) }
@@ -114,15 +111,15 @@ module _ {u v index : List ℕ} {x : Spot} (h : RowOf u v index x) where
   pub row-small : {t : Tally} → TallyOf (row-in u v x) t → t .rules ≤ 1024
   row-small k = omega (arith, k .rules, row-few)
 
-  pub pair-room : (n : model.Sizes) (y : Rule) {s t : Tally} {rest : List Rule} → TallyLeft (row-in u v x) t rest → TallyOf
-      (pair-rule n (rule-of u x) y) s
+  pub pair-room : (n : model.Sizes) (y : Rule) {s t : Tally} {rest : List Rule} → TallyLeft (row-in u v x) t rest
+      → TallyOf (pair-rule n (rule-of u x) y) s
       → t .rules + s .rules ≤ 2048
   pair-room n y l k = omega (arith, l .rules, k .rules, pair-rule-count n (rule-of u x) y, row-few)
 
 -- ---- the first of all limits
 
-pub limit-of : {rs : List Rule} {t r : Tally} → Tallied rs t → r .rules ≡ t .rules → r .place ≡ cond (leb (t .rules) 1024)
-    (t .place) 2 → LimitOf rs r
+pub limit-of : {rs : List Rule} {t r : Tally} → Tallied rs t → r .rules ≡ t .rules → r .place ≡ cond (leb (t .rules) 1024) (t .place) 2
+    → LimitOf rs r
 unfolding first-place
 limit-of {rs} {t} {r} h er ep = go (told (leb (t .rules) 1024))
   where

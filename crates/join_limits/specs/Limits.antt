@@ -34,7 +34,8 @@ pub record Small (e : Extent) : Type 0 where
 
 -- the first of the limits of positions, arcs and steps that some rule exceeds
 unfoldable pub place-in : List Rule → ℕ
-place-in rs = first-of (every (λ r. leb (positions-of r) 64) rs) (every (λ r. leb (arcs-of r) 1024) rs) (every (λ r. leb (steps-of r) 32) rs)
+place-in rs =
+    first-of (every (λ r. leb (positions-of r) 64) rs) (every (λ r. leb (arcs-of r) 1024) rs) (every (λ r. leb (steps-of r) 32) rs)
 
 -- the first of all four
 unfoldable pub first-place : List Rule → ℕ

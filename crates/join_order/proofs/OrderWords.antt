@@ -65,9 +65,9 @@ arc-back a hp hm h =
 
 -- what an order part has, as the code reads it
 module _ {p a : ℕ} {s : List ℕ} {o : Order} (h : OrderAt p s a o) where
-  pub order-within : a + order-length s a ≤ length s
+  pub order-end : a + order-length s a ≤ length s
   unfolding order-length
-  order-within = omega (arith, order-room h)
+  order-end = omega (arith, order-room h)
 
   pub head-of : {positions set arcs long : ℕ} → positions ≡ getD s a 0 → set ≡ getD s (a + 1) 0 + getD s (a + 1 + 1) 0 * W
       → arcs ≡ getD s (a + 3) 0 → long ≡ order-length s a
@@ -87,7 +87,7 @@ module _ {p a : ℕ} {s : List ℕ} {o : Order} (h : OrderAt p s a o) where
         accepting = omega arith;
         arcs = ea ∙ count;
         words = ap (λ (e : ℕ). slice (a + 4) e s) last ∙ words-from body (omega arith);
-        room = omega (arith, order-within);
+        room = omega (arith, order-end);
       }
 
 -- ---- lifted and paired order parts

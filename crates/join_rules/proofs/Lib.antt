@@ -1,1 +1,1 @@
-mod JointLaws
+mod RuleLaws

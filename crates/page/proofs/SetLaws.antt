@@ -98,15 +98,14 @@ module _ (n : ℕ) {all : ℕ} (e : all ≡ all-below n) (flag : Bool) where
       (λ i l. bit-and some t i ∙ ap (λ (b : Bool). b && bit t i) (bit-mask k (λ i. flag) i l))
 
 -- the numbers below k that are not in a set: all but those of them that are
-pub some-of-all : (set j k : ℕ) {all some : ℕ} → all ≡ all-below j → some ≡ mask (min k 64) (λ i. bit set i) → min k 64 ≤ min j 64
-    → some ≤ all
-unfolding all-below
-some-of-all set j k e f h = omega (arith, mask-all (min j 64), mask-< (min k 64) (λ i. bit set i), pow-mono h)
+module _ (set k : ℕ) {all some : ℕ} (e : all ≡ all-below k) (f : some ≡ mask (min k 64) (λ i. bit set i)) where
+  pub some-of-all : some ≤ all
+  unfolding all-below
+  some-of-all = omega (arith, e, f, mask-all (min k 64), mask-< (min k 64) (λ i. bit set i))
 
-pub complement-is : (set k : ℕ) {all some : ℕ} → all ≡ all-below k → some ≡ mask (min k 64) (λ i. bit set i)
-    → all - some ≡ complement set k
-unfolding all-below complement
-complement-is set k e f = omega (arith, mask-all (min k 64), mask-not (min k 64) (λ i. bit set i))
+  pub complement-is : all - some ≡ complement set k
+  unfolding all-below complement
+  complement-is = omega (arith, e, f, mask-all (min k 64), mask-not (min k 64) (λ i. bit set i))
 
 -- ---- pairs, row by row
 

@@ -2,7 +2,7 @@
 use native.Mathlib.Omega.{arith}
 use Rattle.model.specs.Answers.{said, said-refusal}
 use Rattle.compose.proofs.AnswerLaws.{limited-over, limited-within}
-use Rattle.compose.proofs.SheetWords.{few-joint, joint-limit, within}
+use Rattle.compose.proofs.LimitChecks.{few-joint, joint-limit, within}
 use borrow.Author.Needs.{needs}
 use Rattle.compose.proofs.join_few.Statement.{statement}
 use Rattle.compose.proofs.join_few.Tie as tie

@@ -2,7 +2,7 @@
 use native.Mathlib.Omega.{arith}
 use Rattle.model.specs.Answers.{said, said-refusal}
 use Rattle.compose.proofs.AnswerLaws.{limited-states}
-use Rattle.compose.proofs.SheetWords.{product-fits, many-pairs, few-joinable}
+use Rattle.compose.proofs.LimitChecks.{product-fits, many-pairs, few-joinable}
 use borrow.Author.Needs.{needs}
 use Rattle.compose.proofs.join_indexed.Statement.{statement}
 use Rattle.compose.proofs.join_indexed.Tie as tie

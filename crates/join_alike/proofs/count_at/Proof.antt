@@ -15,8 +15,8 @@ count-at-spec =
     (λ c κs. search needs)
     (λ c. omega (
       arith,
-      order-end (c .before .before .before .before .pre) (c .before .before .with-order .ensures) (c .before .if1 .taken)
-          (c .order-length .ensures) .1,
+      order-end (c .before .before .before .before .pre) (c .before .before .with-order .ensures)
+          (c .before .if1 .taken) (c .order-length .ensures) .1,
     ))
     (λ c. order-end (c .before .before .before .before .pre) (c .before .before .with-order .ensures) (c .before .if1 .taken)
     (c .order-length .ensures) .0)

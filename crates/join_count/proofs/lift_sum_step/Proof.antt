@@ -6,13 +6,13 @@ use native.Mathlib.Omega.{arith}
 use Rattle.join_pairs.specs.Sides.{side-of}
 use Rattle.join_pairs.proofs.NumberLaws.{few-side}
 use Rattle.page.proofs.PageLaws.{then, as-words}
-use Rattle.join_count.specs.Counts.{own-states}
-use Rattle.join_count.proofs.StepWords.{step-there, sum-step, step-length-is, step-within}
+use Rattle.join_count.specs.Counts.{states-of}
+use Rattle.join_count.proofs.StepWords.{step-there, sum-step, step-long, step-end}
 use borrow.Author.Needs.{needs}
 use Rattle.join_count.proofs.lift_sum_step.Statement.{statement}
 use Rattle.join_count.proofs.lift_sum_step.Tie as tie
 
-few-states : (c : tie.Start) → own-states (c .args .lift) ≤ 64
+few-states : (c : tie.Start) → states-of (c .args .lift) ≤ 64
 few-states c = few-side (c .pre .0 .few) (side-of (c .args .lift .side))
 
 pub lift-sum-step-spec : {M : Type 1} → statement M
@@ -35,7 +35,7 @@ lift-sum-step-spec =
     (λ c.
     let sum = c .before .before .before .before .before in
     let start = sum .before .before .before .before .before .before .before .before in
-    omega (arith, step-within (few-states start) (start .pre .1 .1)))
+    omega (arith, step-end (few-states start) (start .pre .1 .1)))
     (λ c κs. search needs)
     (λ c. search needs)
     (λ c.
@@ -48,7 +48,7 @@ lift-sum-step-spec =
     λ x h.
     let v = sum-step x h (start .pre .2) in
     let found = sum .sum-head .ensures _ _ (few-states start) (v .sum) in
-    let last = long .step-length .ensures ∙ step-length-is (few-states start) h in
+    let last = long .step-length .ensures ∙ step-long (few-states start) h in
     as-words (sym (v .lifted _ _ _))
     (then (as-words (ap (λ (k : ℕ). k ∷ []) (kind .before .at .ensures)) (kind .put .ensures))
     (then (lifted .lift-sum .ensures (record { at = _; coefficients = v .coefficients; is = v .sum; found = found }))

@@ -5,7 +5,7 @@ use native.Mathlib.Omega.{arith}
 use lib.ListN.{getD}
 use denote.Ref.{now}
 use Rattle.page.proofs.PageLaws.{as-words}
-use Rattle.join_count.proofs.StepWords.{refers, two-numbers, one-shifted, two-shifted}
+use Rattle.join_count.proofs.StepWords.{refers, two-numbers, shifted-one, shifted-two}
 use borrow.Author.Needs.{needs}
 use Rattle.join_count.proofs.shift_step.Statement.{statement}
 use Rattle.join_count.proofs.shift_step.Tie as tie
@@ -28,7 +28,7 @@ shift-step-spec =
     let row = c .before .before in
     let test = row .before .before .before in
     let read = test .before .before in
-    λ x h. as-words (one-shifted _ _ _ h (read .before .at .ensures) (read .field .ensures) (test .if1 .taken)) (row .copy .ensures))
+    λ x h. as-words (shifted-one _ _ _ h (read .before .at .ensures) (read .field .ensures) (test .if1 .taken)) (row .copy .ensures))
     (λ c κs. search needs)
     (λ c.
     let test = c .before .before in
@@ -45,5 +45,5 @@ shift-step-spec =
     let start = read .before .before .before .before in
     λ x h.
     as-words
-    (two-shifted _ _ _ h (read .before .at .ensures) (read .field .ensures) (start .pre .2) (test .if1 .left) (second .field2 .ensures))
+    (shifted-two _ _ _ h (read .before .at .ensures) (read .field .ensures) (start .pre .2) (test .if1 .left) (second .field2 .ensures))
     (row .copy2 .ensures)))

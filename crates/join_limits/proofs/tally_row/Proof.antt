@@ -28,8 +28,8 @@ tally-row-spec =
     (λ c κs. search needs)
     (λ c.
     let n = c .before .before .before .sizes-of in
-    let (walk, all) = row-begun (c .before .before .before .before .before .before .before .pre) (n .result) (n .ensures .0) (n .ensures .1)
-    (c .before .before .at .ensures) (c .before .wide .ensures) (c .first-alike .ensures .0) (c .first-alike .ensures .1) in
+    let (walk, all) = row-begun (c .before .before .before .before .before .before .before .pre) (n .result) (n .ensures .0)
+    (n .ensures .1) (c .before .before .at .ensures) (c .before .wide .ensures) (c .first-alike .ensures .0) (c .first-alike .ensures .1) in
     (walk, tally-begun all))
     (λ c κs. search needs)
     (λ c κs. row-alike (c .before .before .loop .inv .0) (c .before .loop-test .taken) (c .spot-of .ensures))

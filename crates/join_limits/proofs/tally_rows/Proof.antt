@@ -26,7 +26,8 @@ tally-rows-spec =
     (λ c κs. search needs)
     (λ c κs. search needs)
     (λ c. (
-      rows-begun (c .before .before .before .before .before .before .pre) (c .before .at .ensures) (c .wide .ensures),
+      rows-begun (c .before .before .before .before .before .before .pre) (c .before .at .ensures)
+          (c .wide .ensures),
       tally-begun refl,
     ))
     (λ c. tally-many (c .before .before .before .loop .inv .1) (c .if1 .taken))
@@ -35,7 +36,8 @@ tally-rows-spec =
     (λ c κs. omega (
       arith,
       c .before .before .if1 .left,
-      row-small (row-here (c .before .before .before .before .before .loop .inv .0) (c .before .before .before .before .loop-test .taken)
+      row-small
+          (row-here (c .before .before .before .before .before .loop .inv .0) (c .before .before .before .before .loop-test .taken)
           (c .before .spot-of .ensures)) (c .tally-row .ensures),
     ))
     (λ c. search needs)
@@ -44,7 +46,8 @@ tally-rows-spec =
     let next = rows-next (c .before .before .before .before .before .before .loop .inv .0)
     (c .before .before .before .before .before .loop-test .taken) (c .before .before .spot-of .ensures) in (
       c .before .before .before .before .before .before .loop .inv .0,
-      tally-more (c .before .before .before .before .before .before .loop .inv .1) next (c .before .tally-row .ensures)
-          (c .with-more .ensures .0) (c .with-more .ensures .1),
+      tally-more
+          (c .before .before .before .before .before .before .loop .inv .1) next (c .before .tally-row .ensures) (c .with-more .ensures .0)
+          (c .with-more .ensures .1),
     ))
     (λ c. tally-all (c .before .loop .inv .1) (rows-done (c .before .loop .inv .0) (c .loop-test .left))))

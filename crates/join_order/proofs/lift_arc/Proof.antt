@@ -1,7 +1,7 @@
 -- `lift_arc` meets its contract.
 use native.Mathlib.Omega.{arith}
 use Rattle.model.specs.Sheet.{arc-word}
-use Rattle.join_pairs.proofs.NumberLaws.{few-S, few-T}
+use Rattle.join_pairs.proofs.NumberLaws.{few-T}
 use borrow.Author.Needs.{needs}
 use Rattle.join_order.proofs.lift_arc.Statement.{statement}
 use Rattle.join_order.proofs.lift_arc.Tie as tie
@@ -12,7 +12,7 @@ lift-arc-spec =
     tie.close
     (tie.spec
     (λ c κs. search needs)
-    (λ c κs. omega (arith, few-S (c .before .pre .0), few-T (c .before .pre .0)))
+    (λ c κs. omega (arith, few-T (c .before .pre .0)))
     (λ c κs. search needs)
     (λ c.
     let (leaves, reads, enters) = c .before .before .arc-of .ensures in

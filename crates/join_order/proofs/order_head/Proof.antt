@@ -1,7 +1,7 @@
 -- `order_head` meets its contract.
 use native.Mathlib.Omega.{arith}
 use Rattle.model.proofs.RuleWords.{order-room}
-use Rattle.join_order.proofs.OrderWords.{order-within, head-of}
+use Rattle.join_order.proofs.OrderWords.{order-end, head-of}
 use borrow.Author.Needs.{needs}
 use Rattle.join_order.proofs.order_head.Statement.{statement}
 use Rattle.join_order.proofs.order_head.Tie as tie
@@ -16,7 +16,7 @@ order-head-spec =
     (λ c κs. search needs)
     (λ c. omega (arith, order-room (c .before .before .before .before .pre .1 .1)))
     (λ c κs. search needs)
-    (λ c. omega (arith, order-within (c .before .before .before .before .before .pre .1 .1)))
+    (λ c. omega (arith, order-end (c .before .before .before .before .before .pre .1 .1)))
     (λ c. λ p o h.
     let read = c .before .before .before in
     head-of h (read .at .ensures) (c .before .before .set-at .ensures) (c .before .field .ensures) (c .order-length .ensures)))

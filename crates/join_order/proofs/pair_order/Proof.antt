@@ -13,21 +13,21 @@ use Rattle.join_order.proofs.pair_order.Tie as tie
 
 -- after the two heads are read
 module _ (c : tie.After-order-head2) where
-  abbrev start : tie.Start
-  start = c .before .before .before .before .before
+  abbrev begin : tie.Start
+  begin = c .before .before .before .before .before
 
   abbrev heads : Heads
   heads = record { s = c .before .order-head .result; t = c .order-head2 .result }
 
   fit : PairsFit (c .before .order-head .result) (c .order-head2 .result)
   fit =
-      let (few, v) = start .pre in
-      pairs-fit (c .before .order-head .ensures _ _ (v .at-S)) (c .order-head2 .ensures _ _ (v .at-T)) (sizes-of (start .args .sizes))
+      let (few, v) = begin .pre in
+      pairs-fit (c .before .order-head .ensures _ _ (v .at-S)) (c .order-head2 .ensures _ _ (v .at-T)) (sizes-of (begin .args .sizes))
       (few-S few) (few-T few) (v .at-S .ranges) (v .at-T .ranges) (v .few)
 
-  pairable : let a = start .args in PairableArcs (now (a .first)) (now (a .second)) heads (a .sizes .t)
+  pairable : let a = begin .args in PairableArcs (now (a .first)) (now (a .second)) heads (a .sizes .t)
   pairable =
-      let (few, v) = start .pre in
+      let (few, v) = begin .pre in
       record {
         room-S = c .before .order-head .ensures _ _ (v .at-S) .room;
         room-T = c .order-head2 .ensures _ _ (v .at-T) .room;
@@ -54,7 +54,7 @@ pair-order-spec =
     let arcs = c .before .before in
     let head = arcs .before .before .before .before in
     let set = head .before .before .before .before .before .before in
-    let (few, _) = start (set .before) .pre in
+    let (few, _) = begin (set .before) .pre in
     λ o u h k.
     as-words
     (paired-order-words (set .before .before .order-head .ensures _ o h) (set .before .order-head2 .ensures _ u k) _

@@ -9,7 +9,7 @@ use Rattle.page.proofs.PageLaws.{Left, begun, more, done, kept}
 use Rattle.join_alike.specs.Alike.{sizes-in}
 use Rattle.join_alike.proofs.AlikeLaws.{InRow, row-from, row-begun, row-alike, row-next}
 use Rattle.join_rules.specs.Written.{row-words}
-use Rattle.join_rules.proofs.JointLaws.{row-words-next, row-words-done, pair-few}
+use Rattle.join_rules.proofs.RuleLaws.{row-words-next, row-words-done, pair-few}
 use borrow.Author.Needs.{needs}
 use Rattle.join_rules.proofs.put_row.Statement.{statement}
 use Rattle.join_rules.proofs.put_row.Tie as tie
@@ -50,7 +50,8 @@ put-row-spec =
     let start = after-loop .before .before .before .before .before .before .before .before .before in
     let walk = after-loop .loop .inv .0 in (
       row-alike walk (after-loop-test .loop-test .taken) (after-spot-of .spot-of .ensures),
-      pair-few walk (after-loop-test .loop-test .taken) (after-spot-of .spot-of .ensures) (start .pre .1),
+      pair-few walk
+          (after-loop-test .loop-test .taken) (after-spot-of .spot-of .ensures) (start .pre .1),
     ))
     (λ c κs. search needs)
     (λ c.

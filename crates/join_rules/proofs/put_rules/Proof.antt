@@ -9,7 +9,7 @@ use Rattle.page.proofs.PageLaws.{Left, begun, more, done, full, kept}
 use Rattle.join_alike.specs.Alike.{sizes-in}
 use Rattle.join_alike.proofs.AlikeLaws.{InRows, rows-from, rows-begun, row-here}
 use Rattle.join_rules.specs.Written.{joint-words}
-use Rattle.join_rules.proofs.JointLaws.{rows-words-next, rows-words-done, row-few}
+use Rattle.join_rules.proofs.RuleLaws.{rows-words-next, rows-words-done, row-few}
 use borrow.Author.Needs.{needs}
 use Rattle.join_rules.proofs.put_rules.Statement.{statement}
 use Rattle.join_rules.proofs.put_rules.Tie as tie
@@ -45,7 +45,8 @@ put-rules-spec =
     let start = after-loop .before .before .before .before .before .before .before .before in
     let walk = after-loop .loop .inv .0 in (
       row-here walk (after-loop-test .loop-test .taken) (after-spot-of .spot-of .ensures),
-      row-few walk (after-loop-test .loop-test .taken) (after-spot-of .spot-of .ensures) (start .pre .1),
+      row-few walk (after-loop-test .loop-test .taken)
+          (after-spot-of .spot-of .ensures) (start .pre .1),
     ))
     (λ c. search needs)
     (λ c.

@@ -1,6 +1,6 @@
 -- `put_tags` meets its contract.
 use Rattle.page.proofs.PageLaws.{as-words}
-use Rattle.join_rules.proofs.JointLaws.{inners-small, tag-words}
+use Rattle.join_rules.proofs.RuleLaws.{inners-small, tag-words}
 use borrow.Author.Needs.{needs}
 use Rattle.join_rules.proofs.put_tags.Statement.{statement}
 use Rattle.join_rules.proofs.put_tags.Tie as tie
@@ -29,5 +29,4 @@ put-tags-spec =
     let after-field = after-field2 .before in
     let start = after-field .before .before .before .before in
     as-words (tag-words (start .pre .0) (start .pre .1) (after-field2 .field2 .ensures) (after-field3 .field3 .ensures)
-    (after-field .field .ensures) (after-pair .pair .ensures .0) (after-joint-target .joint-target .ensures))
-    (after-copy .copy .ensures)))
+    (after-field .field .ensures) (after-pair .pair .ensures .0) (after-joint-target .joint-target .ensures)) (after-copy .copy .ensures)))

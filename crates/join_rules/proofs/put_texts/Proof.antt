@@ -1,6 +1,6 @@
 -- `put_texts` meets its contract.
 use Rattle.page.proofs.PageLaws.{as-words}
-use Rattle.join_rules.proofs.JointLaws.{text-words}
+use Rattle.join_rules.proofs.RuleLaws.{text-words}
 use borrow.Author.Needs.{needs}
 use Rattle.join_rules.proofs.put_texts.Statement.{statement}
 use Rattle.join_rules.proofs.put_texts.Tie as tie

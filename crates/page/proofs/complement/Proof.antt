@@ -1,6 +1,5 @@
 -- `complement` meets its contract.
 use Rattle.page.proofs.SetLaws.{some-of-all, complement-is}
-use native.Mathlib.Omega.{arith}
 use borrow.Author.Needs.{needs}
 use Rattle.page.proofs.complement.Statement.{statement}
 use Rattle.page.proofs.complement.Tie as tie
@@ -11,5 +10,5 @@ complement-spec =
     (tie.spec
     (λ c κs. search needs)
     (λ c κs. search needs)
-    (λ c. some-of-all _ _ _ (c .before .all-below .ensures) (c .row .ensures) (omega arith))
+    (λ c. some-of-all _ _ (c .before .all-below .ensures) (c .row .ensures))
     (λ c. complement-is _ _ (c .before .all-below .ensures) (c .row .ensures)))

@@ -93,8 +93,8 @@ pub +put-children-spec : {M : Type 1} → statement M
     ))
     (λ c κs. empty-asks (turn t (c .before .before .before .before .before .before .before .before .before))
     (means (c .before .before .before .before .before .before .before .before .symbol-of .ensures)
-    (c .before .before .before .before .before .before .tag .given .1)) (c .before .before .before .before .name-of .ensures)
-    (c .before .if1 .taken))
+    (c .before .before .before .before .before .before .tag .given .1))
+    (c .before .before .before .before .name-of .ensures) (c .before .if1 .taken))
     (λ c. omega (
       arith,
       element (turn t (c .before .before .before .before .before .before .before .before .before .before .before .before))
@@ -108,31 +108,43 @@ pub +put-children-spec : {M : Type 1} → statement M
     (c .before .before .put-empty-tag .ensures))
     (λ c κs. start-asks (turn t (c .before .before .before .before .before .before .before .before .before))
     (means (c .before .before .before .before .before .before .before .before .symbol-of .ensures)
-    (c .before .before .before .before .before .before .tag .given .1)) (c .before .before .before .before .name-of .ensures)
-    (c .before .if1 .left))
+    (c .before .before .before .before .before .before .tag .given .1))
+    (c .before .before .before .before .name-of .ensures) (c .before .if1 .left))
     (λ c. omega (
       arith,
-      element (turn t
-          (c .before .before .before .before .before .before .before .before .before .before .before .before .before))
+      element (turn t (c .before .before .before .before .before .before .before .before .before .before .before .before .before))
           (means (c .before .before .before .before .before .before .before .before .before .before .before .before .symbol-of .ensures)
           (c .before .before .before .before .before .before .before .before .before .before .tag .given .1)) .deep,
     ))
     (λ c. search needs)
     (λ c κs. (
-      omega (arith, element (turn t (c .before .before .before .before .before .before .before .before .before .before .before .before .before)) (means (c .before .before .before .before .before .before .before .before .before .before .before .before .symbol-of .ensures) (c .before .before .before .before .before .before .before .before .before .before .tag .given .1)) .deep, c .before .before .before .before .before .before .before .before .before .before .before .before .before .before .before .before .before .before .before .before .pre .0),
+      omega (
+        arith,
+        element (turn t (c .before .before .before .before .before .before .before .before .before .before .before .before .before))
+            (means (c .before .before .before .before .before .before .before .before .before .before .before .before .symbol-of .ensures)
+            (c .before .before .before .before .before .before .before .before .before .before .tag .given .1)) .deep,
+        c .before .before .before .before .before .before .before .before .before .before .before .before .before .before .before .before .before .before .before .before .pre .0,
+      ),
       inside-asks (turn t (c .before .before .before .before .before .before .before .before .before .before .before .before .before))
           (means (c .before .before .before .before .before .before .before .before .before .before .before .before .symbol-of .ensures)
           (c .before .before .before .before .before .before .before .before .before .before .tag .given .1))
           (c .before .before .before .before .before .before .before .before .name-of .ensures)
           (c .before .before .before .before .before .if1 .left) (c .before .before .before .put-start-tag .ensures),
     ))
-    (λ c κs. end-asks (turn t (c .before .before .before .before .before .before .before .before .before .before .before .before .before .before .before .before .before)) (means (c .before .before .before .before .before .before .before .before .before .before .before .before .before .before .before .before .symbol-of .ensures) (c .before .before .before .before .before .before .before .before .before .before .before .before .before .before .tag .given .1)) (c .before .before .before .before .before .before .before .before .before .before .before .before .name-of .ensures) (c .before .before .before .before .before .before .before .before .before .if1 .left) (c .before .before .before .before .before .before .before .put-start-tag .ensures) (c .before .before .before .put-children .ensures))
+    (λ c κs. end-asks (turn t (c .before .before .before .before .before .before .before .before .before .before .before .before .before .before .before .before .before))
+    (means (c .before .before .before .before .before .before .before .before .before .before .before .before .before .before .before .before .symbol-of .ensures) (c .before .before .before .before .before .before .before .before .before .before .before .before .before .before .tag .given .1))
+    (c .before .before .before .before .before .before .before .before .before .before .before .before .name-of .ensures)
+    (c .before .before .before .before .before .before .before .before .before .if1 .left)
+    (c .before .before .before .before .before .before .before .put-start-tag .ensures)
+    (c .before .before .before .put-children .ensures))
     (λ c. omega (
       arith,
-      element (turn t
-          (c .before .before .before .before .before .before .before .before .before .before .before .before .before .before .before .before .before .before .before .before)) (means (c .before .before .before .before .before .before .before .before .before .before .before .before .before .before .before .before .before .before .before .symbol-of .ensures) (c .before .before .before .before .before .before .before .before .before .before .before .before .before .before .before .before .before .tag .given .1)) .sized,
+      element (turn t (c .before .before .before .before .before .before .before .before .before .before .before .before .before .before .before .before .before .before .before .before))
+          (means (c .before .before .before .before .before .before .before .before .before .before .before .before .before .before .before .before .before .before .before .symbol-of .ensures) (c .before .before .before .before .before .before .before .before .before .before .before .before .before .before .before .before .before .tag .given .1)) .sized,
     ))
-    (λ c. full-leaves (turn t (c .before .before .before .before .before .before .before .before .before .before .before .before .before .before .before .before .before .before .before .before)) (means (c .before .before .before .before .before .before .before .before .before .before .before .before .before .before .before .before .before .before .before .symbol-of .ensures) (c .before .before .before .before .before .before .before .before .before .before .before .before .before .before .before .before .before .tag .given .1)) (c .before .before .before .before .before .before .before .before .before .before .before .before .before .before .before .name-of .ensures) (c .before .before .before .before .before .before .before .before .before .before .before .before .if1 .left) (c .before .before .before .before .before .before .before .before .before .before .put-start-tag .ensures) (c .before .before .before .before .before .before .put-children .ensures) (c .before .before .put-end-tag .ensures))
+    (λ c. full-leaves (turn t (c .before .before .before .before .before .before .before .before .before .before .before .before .before .before .before .before .before .before .before .before))
+    (means (c .before .before .before .before .before .before .before .before .before .before .before .before .before .before .before .before .before .before .before .symbol-of .ensures) (c .before .before .before .before .before .before .before .before .before .before .before .before .before .before .before .before .before .tag .given .1))
+    (c .before .before .before .before .before .before .before .before .before .before .before .before .before .before .before .name-of .ensures) (c .before .before .before .before .before .before .before .before .before .before .before .before .if1 .left) (c .before .before .before .before .before .before .before .before .before .before .put-start-tag .ensures) (c .before .before .before .before .before .before .put-children .ensures) (c .before .before .put-end-tag .ensures))
     (λ c κs. text-asks (turn t (c .before .before .before))
     (tag-missed (c .before .before .symbol-of .result) (c .before .before .symbol-of .ensures) (c .before .match .keys2)))
     (λ c. search needs)

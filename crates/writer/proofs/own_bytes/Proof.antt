@@ -18,24 +18,25 @@ own-bytes-spec =
     (λ c κs. c .before .before .before .before .before .pre _
     (means (c .before .before .before .symbol-of .ensures) (c .before .tag .given .1)))
     (λ c. search needs)
+    (λ c. omega (
+      arith,
+      tag-short (c .before .before .before .before .before .before .before .before .pre _
+          (means (c .before .before .before .before .before .before .symbol-of .ensures)
+          (c .before .before .before .before .tag .given .1))),
+      ap length (c .before .before .name-of .ensures),
+    ))
     (λ c.
-    let own = own-empty (c .before .before .before .before .before .before .before .before .args .list .now)
+    let own = own-pair (c .before .before .before .before .before .before .before .before .args .list .now)
     (c .before .before .before .before .before .before .before .before .args .node)
     (means (c .before .before .before .before .before .before .symbol-of .ensures) (c .before .before .before .before .tag .given .1))
     (c .if1 .taken) in
     omega (arith, own, ap length (c .before .before .name-of .ensures)))
     (λ c. search needs)
-    (λ c. omega (
-      arith,
-      tag-short (c .before .before .before .before .before .before .before .before .pre _
-          (means (c .before .before .before .before .before .before .symbol-of .ensures) (c .before .before .before .before .tag .given .1))),
-      ap length (c .before .before .name-of .ensures),
-    ))
     (λ c. search needs)
     (λ c. search needs)
     (λ c. search needs)
     (λ c.
-    let own = own-pair (c .before .before .before .before .before .before .before .before .args .list .now)
+    let own = own-empty (c .before .before .before .before .before .before .before .before .args .list .now)
     (c .before .before .before .before .before .before .before .before .args .node)
     (means (c .before .before .before .before .before .before .symbol-of .ensures) (c .before .before .before .before .tag .given .1))
     (c .if1 .left) in

@@ -1,0 +1,109 @@
+-- The words of the joint rules of texts and of tags, and of the rows of joint rules.
+use mathlib.Core.Path.{_≡_, sym, ap, _∙_}
+use mathlib.Core.List.{List, [], _∷_, _++_, flatMap}
+use Prim.Native.Nat.{ℕ, _+_, _/_, _^_, _≤_, _<_}
+use native.Mathlib.Omega.{arith}
+use lib.ListN.{getD}
+use lib.Seq.{slice}
+use Rattle.model.specs.Sheet.{Rule, rule-words}
+use Rattle.model.specs.Spans.{RuleAt}
+use Rattle.model.specs.Compose as model
+use Rattle.model.specs.Compose.{pair, of-pairs}
+use Rattle.model.proofs.ListLaws.{each-append}
+use Rattle.model.proofs.PartLaws.{word-is}
+use Rattle.model.proofs.RuleWords.{as-text, as-tag, text-key, tag-key}
+use Rattle.join_pairs.specs.declared.Sizes.{Sizes}
+use Rattle.join_alike.specs.declared.Spot.{Spot}
+use Rattle.join_alike.specs.declared.RulePair.{RulePair}
+use Rattle.join_alike.specs.Spots.{SpotIn, parts-of}
+use Rattle.join_alike.specs.Alike.{sizes-in, joint-rules-in, row-in, Alike, pair-in, FewPositions}
+use Rattle.join_alike.proofs.AlikeLaws.{JointOf, texts, tags, contents, alike-paired}
+use Rattle.join_alike.proofs.AlikeLaws.{InRow, row-from, row-next, row-among, row-done, InRows, rows-from, rows-next, rows-among, rows-done}
+use Rattle.join_contents.specs.Parts.{target-in, pair-words}
+use Rattle.join_contents.proofs.ContentLaws.{one-rule, states-S, states-T, few-states}
+use Rattle.join_rules.specs.Written.{row-words}
+
+-- ---- texts and tags
+
+text-rule : {n : model.Sizes} {x y z : Rule} → JointOf n x y z → {p a : ℕ} {s : List ℕ} → RuleAt p s a x → getD s a 0 ≡ 33
+    → {k q : ℕ} → k ≡ getD s (a + 1) 0 → q ≡ pair (n .of-T) (parts-of x .target) (parts-of y .target) → 33 ∷ k ∷ q ∷ [] ≡ rule-words
+    (of-pairs n) z
+unfolding rule-words
+text-rule (texts k s t) h e ek eq = rw (ek, text-key h .1, eq)
+text-rule (tags g c d s t) h e ek eq = absurd (omega (arith, tag-key h .0))
+text-rule (contents o u φ ψ s t) h e ek eq = let (k, q, i) = as-text _ h e in let z : _≡_ {A = ℕ} 0 1 = cc i in absurd (omega arith)
+
+tag-rule : {n : model.Sizes} {x y z : Rule} → JointOf n x y z → {p r a b : ℕ} {s t : List ℕ} → RuleAt p s a x → RuleAt r t b y
+    → getD s a 0 ≡ 38
+    → {g c d i q : ℕ} → g ≡ getD s (a + 1) 0 → c ≡ getD s (a + 2) 0 → d ≡ getD t (b + 2) 0 → i ≡ pair (n .of-T) c d
+    → q ≡ pair (n .of-T) (parts-of x .target) (parts-of y .target) → 38 ∷ g ∷ i ∷ q ∷ [] ≡ rule-words (of-pairs n) z
+unfolding rule-words
+tag-rule (texts k s t) h h′ e eg ec ed ei eq = absurd (omega (arith, text-key h .0))
+tag-rule (tags g c d s t) h h′ e eg ec ed ei eq =
+    rw (ei, ec, ed, eg, tag-key h .1, eq, word-is (h .there) 2 (omega arith), word-is (h′ .there) 2 (omega arith))
+tag-rule (contents o u φ ψ s t) h h′ e eg ec ed ei eq =
+    let (g, c, q, i) = as-tag _ h e in let z : _≡_ {A = ℕ} 0 1 = cc i in absurd (omega arith)
+
+-- inner states of rules of a tag are states
+inner-small : {n : model.Sizes} {x y z : Rule} → JointOf n x y z → {p r a b : ℕ} {s t : List ℕ} → RuleAt p s a x → RuleAt r t b y
+    → getD s a 0 ≡ 38
+    → (getD s (a + 2) 0 < p) × (getD t (b + 2) 0 < r)
+unfolding rule-words
+inner-small (texts k s t) h h′ e = absurd (omega (arith, text-key h .0))
+inner-small (tags g c d s t) h h′ e =
+    (rw (word-is (h .there) 2 (omega arith)) (h .ranges .2), rw (word-is (h′ .there) 2 (omega arith)) (h′ .ranges .2))
+inner-small (contents o u φ ψ s t) h h′ e = let (g, c, q, i) = as-tag _ h e in let z : _≡_ {A = ℕ} 0 1 = cc i in absurd (omega arith)
+
+module _ {u v : List ℕ} {n : Sizes} {r : RulePair} (h : Alike u v n r) where
+  -- the words of the joint rule
+  pub text-words : getD u (r .s .at) 0 ≡ 33 → {k q : ℕ} → k ≡ getD u (r .s .at + 1) 0 → q ≡ target-in u v n r
+      → slice 0 3 (33 ∷ k ∷ q ∷ []) ≡ pair-words u v n r
+  text-words e ek eq = let (z, w) = alike-paired h in text-rule w (h .first .begins) e ek eq ∙ one-rule w
+
+  module _ (e : getD u (r .s .at) 0 ≡ 38) {c d : ℕ} (ec : c ≡ getD u (r .s .at + 2) 0) (ed : d ≡ getD v (r .t .at + 2) 0) where
+    pub inners-small : (n .t ≤ 64) × (c ≤ 255) × (d ≤ 255)
+    inners-small =
+        let (z, w) = alike-paired h in
+        let (few-c, few-d) = inner-small w (h .first .begins) (h .second .begins) e in
+        (few-states h .1, omega (arith, few-states h, states-S h), omega (arith, few-states h, states-T h))
+
+    pub tag-words : {g i q : ℕ} → g ≡ getD u (r .s .at + 1) 0 → i ≡ pair (n .t) c d → q ≡ target-in u v n r
+        → slice 0 4 (38 ∷ g ∷ i ∷ q ∷ []) ≡ pair-words u v n r
+    tag-words eg ei eq = let (z, w) = alike-paired h in tag-rule w (h .first .begins) (h .second .begins) e eg ec ed ei eq ∙ one-rule w
+
+-- ---- rows
+
+module _ {u v index : List ℕ} {x : Spot} {n : Sizes} {m j : ℕ} (h : InRow u v index x n m j) (l : j < m) {y : Spot}
+    (e : SpotIn index j y) where
+  abbrev words : Rule → List ℕ
+  words = rule-words (of-pairs (sizes-in u v))
+
+  pub row-words-next : {i : ℕ} → i ≡ getD index (67 + j) 0 / 2 ^ 16
+      → flatMap words (row-from u v x j) ≡ pair-words u v n (record { s = x; t = y }) ++ flatMap words (row-from u v x i)
+  row-words-next {i} f =
+      let (_, next, _) = row-next h l e f in
+      ap (flatMap words) next ∙ each-append words (pair-in u v n (record { s = x; t = y })) (row-from u v x i)
+      ∙ ap (λ (k : model.Sizes). flatMap (rule-words (of-pairs k)) (pair-in u v n (record { s = x; t = y })) ++ flatMap words
+      (row-from u v x i)) (sym (h .sizes))
+
+  pub pair-few : FewPositions (row-in u v x) → FewPositions (pair-in u v n (record { s = x; t = y }))
+  pair-few few z k = few z (row-among h l e k)
+
+pub row-words-done : {u v index : List ℕ} {x : Spot} {n : Sizes} {m j : ℕ} → InRow u v index x n m j → m ≤ j
+    → flatMap (rule-words (of-pairs (sizes-in u v))) (row-from u v x j) ≡ []
+unfolding flatMap
+row-words-done {u} {v} h l = ap (flatMap (rule-words (of-pairs (sizes-in u v)))) (row-done h l)
+
+module _ {u i v j : List ℕ} {m k : ℕ} (h : InRows u i v j m) where
+  pub rows-words-next : k < m → {x : Spot} → SpotIn i k x → flatMap (rule-words (of-pairs (sizes-in u v))) (rows-from u v k)
+      ≡ row-words u v x ++ flatMap (rule-words (of-pairs (sizes-in u v))) (rows-from u v (k + 1))
+  rows-words-next l {x} e =
+      let words = rule-words (of-pairs (sizes-in u v)) in
+      ap (flatMap words) (rows-next h l e) ∙ each-append words (row-in u v x) (rows-from u v (k + 1))
+
+  pub rows-words-done : m ≤ k → flatMap (rule-words (of-pairs (sizes-in u v))) (rows-from u v k) ≡ []
+  unfolding flatMap
+  rows-words-done l = ap (flatMap (rule-words (of-pairs (sizes-in u v)))) (rows-done h l)
+
+  pub row-few : k < m → {x : Spot} → SpotIn i k x → FewPositions (joint-rules-in u v) → FewPositions (row-in u v x)
+  row-few l e few z n = few z (rows-among h l e n)
