@@ -164,7 +164,8 @@ fn own_bytes(list: &[u8], starts: &[usize; ENTRIES], node: Node) -> usize
 // The number of bytes of a tree's form, or the first node that 11 refuses, in one pass over the nodes.
 fn measure(list: &[u8], starts: &[usize; ENTRIES], text: &[u8], tree: &[u32]) -> Answer
     requires { ⌜ Tags (now list) (now starts) (now tree) ⌝ }
-    ensures { λ r. ⌜ said r ≡ answer-of (λ n. n) (measured (now (list .entry)) (now (text .entry)) (now (tree .entry)) (length (now (tree .entry)) / 4) 0 0) ⌝ }
+    ensures { λ r. ⌜ said r ≡ answer-of (λ n. n)
+        (measured (now (list .entry)) (now (text .entry)) (now (tree .entry)) (length (now (tree .entry)) / 4) 0 0) ⌝ }
 {
     let nodes = tree.len() / NODE_WORDS;
     let mut bytes = 0;
@@ -250,7 +251,8 @@ fn put_children(
     at: usize,
 ) -> usize
     requires { ⌜ Ready (now list) (now starts) (now text) (now tree) (now out) levels first end at ⌝ }
-    ensures { λ r. ⌜ Puts (now (list .entry)) (now (starts .entry)) (now (text .entry)) (now (tree .entry)) levels first end (now (out .entry)) at r (now (out .exit)) ⌝ }
+    ensures { λ r. ⌜ Puts (now (list .entry)) (now (starts .entry)) (now (text .entry)) (now (tree .entry)) levels first end
+        (now (out .entry)) at r (now (out .exit)) ⌝ }
 {
     let mut i = first;
     let mut o = at;
