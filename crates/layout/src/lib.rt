@@ -31,8 +31,6 @@ pub const TAGS: usize = 4;
 
 pub const RULES: usize = 5;
 
-pub const FIRST_RULE: usize = 6;
-
 // the first word of every sheet
 pub const EDITION: u32 = 1;
 

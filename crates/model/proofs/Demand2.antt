@@ -10,7 +10,7 @@ use lib.ListN.{length, take, drop, replicate, length-replicate}
 use lib.Seq.{take-at, drop-at}
 use borrow.Author.Tests.{le-leb}
 use Rattle.model.specs.Lists.{_∈_, has}
-use Rattle.model.specs.Answers.{Said, count, accepted, refused, stuck, refusal, looks-in, passes, _>>=_, _>>_, require, room-for}
+use Rattle.model.specs.Answers.{Said, accepted, refused, stuck, refusal, looks-in, passes, _>>=_, _>>_, require, room-for}
 use Rattle.model.specs.Tree.{Element, nodes, size, words, tree-of, Over}
 use Rattle.model.specs.Sheet.{Sheet, sheet-of, InRange}
 use Rattle.model.specs.Relation.{AtMostOne, ReachesTwo, Single, GivesTwo, Takes, NoState, SomeState, StatesOf, Highest}

@@ -8,7 +8,7 @@ use lib.Dec.{eqb}
 use lib.ListN.{length}
 use borrow.Author.Tests.{eqb-true}
 use Rattle.model.specs.Lists.{_∈_}
-use Rattle.model.specs.Answers.{Said, accepted, refusal, Checked, passes, refuses, room-for}
+use Rattle.model.specs.Answers.{Said, accepted, refusal, Checked, passes, refuses, room-for, looks-in}
 use Rattle.model.specs.Tree.{Element, nodes, size, tree-of}
 use Rattle.model.specs.Sheet.{Sheet, sheet-of, sheet-words, InRange}
 use Rattle.model.specs.Relation.{Single, GivesTwo, Takes, Accepts}
@@ -20,7 +20,6 @@ use Rattle.model.proofs.SheetCode.{sheet-passes}
 use Rattle.model.proofs.Product.{joint-single, joint-takes, joint-accepts}
 use Rattle.model.proofs.JoinRange.{joint-in-range, joint-rule-count}
 use Rattle.model.proofs.SwapLaws.{swapped-in-range, swapped-accepts}
-use Rattle.model.specs.Answers.{looks-in}
 use Rattle.model.proofs.Demand2.{Names, verdict-names, verdict-accepts, verdict-two, looks-bound}
 
 -- ---- how "takes" and "accepts" are read

@@ -8,19 +8,19 @@ use lib.Dec.{eqb}
 use lib.ListN.{length, replicate, length-replicate}
 use Rattle.model.specs.Lists.{_∈_}
 use Rattle.model.specs.Answers.{Said, count, accepted, refused, stuck, refusal, Checked, passes, refuses, _>>=_, _>>_, require}
-use Rattle.model.specs.Tree.{Element, Document, ε, _·_, size, nodes, words, tree-of, Over}
+use Rattle.model.specs.Answers.{looks-in}
+use Rattle.model.specs.Tree.{Element, ε, _·_, size, nodes, words, tree-of, Over}
 use Rattle.model.specs.Sheet.{Sheet, sheet-of, file-words}
 use Rattle.model.specs.Names.{names-of}
 use Rattle.model.specs.Text.{form-of}
 use Rattle.model.specs.Relation.{AtMostOne, ReachesTwo, Single, GivesTwo, Takes, Accepts, NoState, SomeState, Highest}
 use Rattle.model.specs.Calls.{Judged, judge, judge-said, verdict-of, formcheck}
 use Rattle.model.proofs.Tests.{same, eqb-yes}
-use Rattle.model.proofs.CheckLaws.{passes-inj, bind-inv, required}
+use Rattle.model.proofs.CheckLaws.{bind-inv, required}
 use Rattle.model.proofs.TreeLaws.{tree-passes}
 use Rattle.model.proofs.NameLaws.{few-names}
 use Rattle.model.proofs.ReadGood.{read-good}
-use Rattle.model.proofs.RoundTrip.{one-size, one-words, room-passes}
-use Rattle.model.specs.Answers.{looks-in}
+use Rattle.model.proofs.RoundTrip.{one-words, room-passes}
 use Rattle.model.proofs.Demand2.{Names, verdict-names, verdict-accepts, verdict-two, verdict-two-at, verdict-stuck, verdict-stuck-at}
 use Rattle.model.proofs.Demand2.{looks-bound}
 

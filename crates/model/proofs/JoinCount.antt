@@ -14,10 +14,9 @@ use lib.Seq.{getD-append-add, getD-append-seam}
 use Rattle.model.specs.Lists.{_∈_, only, Ascending}
 use Rattle.model.specs.Sheet.{Coefficient, Step, at-most, remainder, not-step, and-step, or-step, CountInRange, IfAny}
 use Rattle.model.specs.Words.{occurrences, total, remainder-of, holds, truths, fits-count}
-use Rattle.model.specs.Compose.{Side, S, T, half, Sizes, coefficient-of, lift-sum, lift-step, joint-count}
+use Rattle.model.specs.Compose.{Side, S, T, half, Sizes, coefficient-of, lift-sum, lift-step, joint-count, of-pairs}
 use Rattle.model.proofs.Tests.{eqb-yes, eqb-false}
 use Rattle.model.proofs.ListLaws.{∈-numbers, asc-from}
-use Rattle.model.specs.Compose.{of-pairs}
 use Rattle.model.proofs.Pairs.{AllBelow, halves}
 
 -- ---- sums, state by state

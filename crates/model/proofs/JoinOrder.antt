@@ -8,9 +8,8 @@ use Rattle.model.specs.Lists.{_∈_, numbers, grid}
 use Rattle.model.specs.Sheet.{Arc, Order, OrderInRange, IfAny}
 use Rattle.model.specs.Words.{Path-of, InLanguage}
 use Rattle.model.specs.Compose.{pair, Side, S, T, half, beside, Sizes, of-other, lift-arc, lift-order, pair-arc, pair-order}
-use Rattle.model.specs.Compose.{joint-order}
+use Rattle.model.specs.Compose.{joint-order, of-side, of-pairs}
 use Rattle.model.proofs.ListLaws.{∈-grid, grid-∈, ∈-numbers, numbers-<}
-use Rattle.model.specs.Compose.{of-side, of-pairs}
 use Rattle.model.proofs.Pairs.{either, on-both, half-pair, pair-halves, same-halves, half-zero, ∈-pairs, half-beside, beside-half}
 use Rattle.model.proofs.Pairs.{AllBelow, halves}
 

@@ -19,12 +19,11 @@ use Rattle.model.specs.Sheet.{marks, sheet-words, small, ArcInRange, Ord
 use Rattle.model.specs.Sheet.{CountInRange, IfAny, RuleInRange, InRange}
 use Rattle.model.specs.Compose.{pair, Side, S, T, half, Sizes, of-other, lift-arc, lift-order, pair-arc, pair-order, joint-order}
 use Rattle.model.specs.Compose.{coefficient-of, lift-sum, lift-step, joint-count, pair-rule, joint-rules, sizes, joint, positions-of}
-use Rattle.model.specs.Compose.{arcs-of, steps-of, within-limits}
+use Rattle.model.specs.Compose.{arcs-of, steps-of, within-limits, of-side, of-pairs}
 use Rattle.model.proofs.Tests.{Yes, never, same, eqb-like}
 use Rattle.model.proofs.ListLaws.{every-∈, ∈-every, only-eq, each-∈, length-each, map-append, numbers-<, grid-∈, asc-filter}
 use Rattle.model.proofs.ListLaws.{asc-grid, has-no, map-each, length-only}
 use Rattle.model.proofs.CheckLaws.{require-is, required}
-use Rattle.model.specs.Compose.{of-side, of-pairs}
 use Rattle.model.proofs.Pairs.{either, on-both, beside-below}
 use Rattle.model.proofs.Product.{Paired, ones, twos, threes, joint-∈}
 

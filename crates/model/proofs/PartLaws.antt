@@ -5,7 +5,6 @@ use Prim.Native.Nat.{ℕ, zero, suc, _+_, _-_, _≤_, _<_}
 use native.Mathlib.Omega.{arith}
 use lib.ListN.{length, getD, take, drop, length-append, length-drop, List·getD-append}
 use lib.Seq.{slice, take-add, take-at, drop-at, length-take-le, getD-drop}
-use Rattle.model.specs.Lists.{_∈_}
 use Rattle.model.specs.Spans.{WordsAt, PartAt, PartsAt}
 use Rattle.model.proofs.Spans.{span-left, span-right}
 

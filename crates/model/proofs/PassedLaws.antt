@@ -4,8 +4,8 @@ use mathlib.Core.List.{List, _∷_, flatMap}
 use Prim.Native.Nat.{ℕ, _+_, _*_, _/_, _%_, _≤_}
 use native.Mathlib.Omega.{arith}
 use lib.ListN.{length, getD}
-use Rattle.model.specs.Lists.{_∈_, has}
-use Rattle.model.specs.Answers.{Checked, passes, refuses}
+use Rattle.model.specs.Lists.{has}
+use Rattle.model.specs.Answers.{passes}
 use Rattle.model.specs.Sheet.{Sheet, Rule, one, two, three, W, mask, set-words, rule-words, sheet-words, RuleInRange, InRange}
 use Rattle.model.specs.Sheet.{sheet-of}
 use Rattle.model.specs.Spans.{WordsAt, RulesAt}

@@ -13,9 +13,9 @@ use Rattle.model.specs.Sheet.{Sheet, Rule, one, two, three, Order, Step,
 use Rattle.model.specs.Words.{InLanguage, fits-count}
 use Rattle.model.specs.Relation.{NotOne, To, type-1, type-2, ToD, lone, type-3, Each, no-more, more, Single, Takes, Accepts}
 use Rattle.model.specs.Compose.{pair, Side, S, T, half, Sizes, joint-order, joint-count, pair-rule, joint-rules, sizes, joint}
+use Rattle.model.specs.Compose.{of-side, of-pairs}
 use Rattle.model.proofs.Tests.{Yes, and-yes, and-left, and-right, same, eqb-yes}
 use Rattle.model.proofs.ListLaws.{∈-only, only-test, only-eq, ∈-each, each-∈, ∈-grid}
-use Rattle.model.specs.Compose.{of-side, of-pairs}
 use Rattle.model.proofs.Pairs.{either, on-both, half-pair, pair-halves, same-halves, ∈-pairs, AllBelow, halves}
 use Rattle.model.proofs.JoinOrder.{joint-language}
 use Rattle.model.proofs.JoinCount.{joint-fits}

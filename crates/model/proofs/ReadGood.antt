@@ -13,12 +13,11 @@ use Rattle.model.specs.Tree.{Element, Document, ε, _·_, size, sizeD, n
 use Rattle.model.specs.Bytes.{class-of}
 use Rattle.model.specs.Names.{names-of}
 use Rattle.model.specs.Text.{Place, before, root-open, blank, in-text, tag-open, start-name, start-gap, start-slash, end-open}
-use Rattle.model.specs.Text.{end-name, end-gap, after, to, place-number, move-number, does, State, start, number-at, form-of}
+use Rattle.model.specs.Text.{end-name, end-gap, after, to, place-number, move-number, does, State, start, number-at, form-of, scan}
 use Rattle.model.specs.Written.{written, writtenD, texts-checked}
 use Rattle.model.proofs.Tests.{Yes, never, same}
 use Rattle.model.proofs.CheckLaws.{refuses≢passes, passes-inj}
 use Rattle.model.proofs.DocumentLaws.{texts-good}
-use Rattle.model.specs.Text.{scan}
 use Rattle.model.proofs.Scan.{scan-is}
 use Rattle.model.proofs.TextLaws.{Rest}
 use Rattle.model.proofs.Zipper.{At, Sound}

@@ -13,13 +13,12 @@ use Rattle.model.specs.Tree.{Span, Element, text, tag, Document, ε, _·
 use Rattle.model.specs.Tree.{is-text, Keeps, KeepsD, Over}
 use Rattle.model.specs.Bytes.{kind-of-text}
 use Rattle.model.specs.Names.{name-of, names-of}
-use Rattle.model.specs.Text.{Place, Open, State, blank, in-text, outside, behind, text-node, tag-node, form-of}
+use Rattle.model.specs.Text.{Place, Open, State, blank, in-text, outside, behind, text-node, tag-node, form-of, state, an-open}
 use Rattle.model.specs.Written.{source-bytes, tagged, written, writtenD, trimmed-text, good-text, good-words, texts-checked}
 use Rattle.model.proofs.ListLaws.{every-cons, every-append}
 use Rattle.model.proofs.Tests.{Yes, never, and-left, and-right, same}
 use Rattle.model.proofs.DocumentLaws.{followed, followed-ε, followed-behind, ends-in-text, GoodNodes, texts-good}
 use Rattle.model.proofs.NameLaws.{name-is, tag-of-name}
-use Rattle.model.specs.Text.{state, an-open}
 use Rattle.model.proofs.RoundScan.{content-place, Scans, nothing, then, text-run, Listed, Leads, at-root, in-content, empty-run}
 use Rattle.model.proofs.RoundScan.{full-run, form-read}
 

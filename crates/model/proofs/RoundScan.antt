@@ -16,11 +16,10 @@ use Rattle.model.specs.Names.{tag-of}
 use Rattle.model.specs.Text.{Place, before, root-open, blank, in-text, tag-open, start-name, start-slash, end-open, end-name, after}
 use Rattle.model.specs.Text.{Move, to, opens, begins, names, closes, stops, moves, move, place-number, move-number, does, Open, State}
 use Rattle.model.specs.Text.{start, name-at, behind, text-node, tag-node, outside, closed, moved, innermost, start-tag, refusal-2}
-use Rattle.model.specs.Text.{refusal-3, refusal-4, refusal-5, refusal-6, refusal-7, number-at, form-of}
+use Rattle.model.specs.Text.{refusal-3, refusal-4, refusal-5, refusal-6, refusal-7, number-at, form-of, state, an-open, scan}
 use Rattle.model.specs.Written.{text-byte, solid-byte, trimmed-text}
 use Rattle.model.proofs.ListLaws.{every-cons}
 use Rattle.model.proofs.Tests.{Yes, never, eqb-yes, eqb-false}
-use Rattle.model.specs.Text.{state, an-open, scan}
 use Rattle.model.proofs.Scan.{scan-is}
 use Rattle.model.proofs.ByteLaws.{letter-class, name-cases, text-cases, name-cons, name-at-end, text-at-end, trimmed-cons}
 

@@ -9,8 +9,7 @@ use native.Mathlib.Omega.{arith}
 use lib.ListN.{length, getD, length-append, length-map}
 use Rattle.model.specs.Lists.{has}
 use Rattle.model.specs.Sheet.{Order, Step, Rule, one, two, three, W, mask, set-words, arc-word, order-words, step-words, count-words}
-use Rattle.model.specs.Sheet.{rule-words}
-use Rattle.model.specs.Sheet.{OrderInRange, CountInRange, IfAny}
+use Rattle.model.specs.Sheet.{rule-words, OrderInRange, CountInRange, IfAny}
 use Rattle.model.specs.Spans.{WordsAt, OrderAt, CountAt, RuleAt, Content, content, there-is, map-of, ordered, counted, order-part}
 use Rattle.model.specs.Spans.{count-part}
 use Rattle.model.specs.Index.{key}

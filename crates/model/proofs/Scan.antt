@@ -1,7 +1,7 @@
 -- Reading in one pass: from a state on, the first refusal, or the content at the end. It is what the refusals, each by itself, declare.
 use mathlib.Core.Path.{_≡_, refl, sym, ap, _∙_}
 use mathlib.Core.Bool.{Bool, true, false, cond, not}
-use mathlib.Core.List.{List, [], _∷_}
+use mathlib.Core.List.{List, []}
 use Prim.Native.Nat.{ℕ, zero, suc, _+_, _≤_, _<_}
 use native.Mathlib.Omega.{arith}
 use lib.Dec.{eqb, leb}
@@ -10,8 +10,7 @@ use lib.Seq.{drop-cons}
 use borrow.Author.Tests.{leb-true}
 use Rattle.model.specs.Answers.{Checked, passes, refuses, _>>_, require}
 use Rattle.model.specs.Tree.{Document}
-use Rattle.model.specs.Bytes.{class-of}
-use Rattle.model.specs.Text.{State, start, to, after, move, move-at, does, moved, scan, state-at, refusal-2, refusal-3, refusal-4}
+use Rattle.model.specs.Text.{State, start, to, after, move-at, does, moved, scan, state-at, refusal-2, refusal-3, refusal-4}
 use Rattle.model.specs.Text.{refusal-5, refusal-6, refusal-7, number-at, first-refused, form-of}
 use Rattle.model.proofs.CheckLaws.{required}
 
