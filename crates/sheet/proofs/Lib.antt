@@ -1,6 +1,4 @@
 pub mod Over
-pub mod PlaceLaws
-mod ChainLaws
-mod Ends
 mod Files
 mod FileAnswers
+mod IndexAnswers

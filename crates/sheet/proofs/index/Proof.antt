@@ -1,8 +1,7 @@
 -- `sheet::index` meets its contract.
 use native.Mathlib.Omega.{arith}
-use lib.ListN.{length-replicate}
 use borrow.Author.Needs.{needs}
-use Rattle.sheet.proofs.Ends.{passes-counted, index-refused, index-left}
+use Rattle.sheet.proofs.IndexAnswers.{passes-counted, index-refused, index-left}
 use Rattle.sheet.proofs.index.Statement.{statement}
 use Rattle.sheet.proofs.index.Tie as tie
 
