@@ -13,13 +13,18 @@ use borrow.Author.Tests.{lt-ltb, le-ltb}
 use mir.Syntax.{w64}
 use mir.Val.{Fits}
 use Rattle.model.specs.Lists.{has, only}
-use Rattle.model.specs.Tree.{symbol-at, size-at}
+use Rattle.model.specs.Tree.{symbol-at, size-at, text-symbol, symbol-of}
 use Rattle.model.specs.Sheet.{Rule, one, two, three, mask, bit}
 use Rattle.model.specs.Run.{at-tag, text-targets, content-targets, element-targets, kind, of-kind, unless-one, unless-none, element-looks}
 use Rattle.model.specs.Run.{Item, items, child-words, child-states}
 use Rattle.model.specs.Index.{rules-in, Indexed}
 use Rattle.model.proofs.Tests.{never}
+use Rattle.model.proofs.SymbolLaws.{text-said, tag-said, nothing-said}
 use Rattle.model.proofs.PassedLaws.{in-range}
+use Rattle.symbols.specs.Meaning.{meaning}
+use Rattle.symbols.specs.declared.Symbol.{Symbol}
+use Rattle.symbols.specs.declared.Symbol.the-variants.{Tag, Text, Nothing}
+use Rattle.symbols.proofs.MeaningLaws.{means}
 use Rattle.bits.specs.Stands.{Stands}
 use Rattle.bits.proofs.SetLaws.{none-stands, stands-none, stands-some, gathers-none, gathers-more, gathers-all}
 use Rattle.judge_order.specs.Order.{StateWords, states-of}
@@ -243,31 +248,50 @@ module _ {s index : List ℕ} (h : Indexed s index) {r : Rules} (k : RulesOf s r
         };
   }
 
--- ---- a node, by its symbol
+-- ---- a node, by what its symbol says
 
 module _ {s index : List ℕ} {at : At} {tree states words : List ℕ} (j : Judging s index at tree states words) where
-  pub text-kind : 64 < symbol-at tree (at .node) → (1 ≤ symbol-at tree (at .node) - 64) × (symbol-at tree (at .node) - 64 ≤ 2)
-  text-kind l = omega (arith, j .shaped .symbols (at .node) (j .node))
+  abbrev symbol : ℕ
+  symbol = symbol-at tree (at .node)
 
-  pub text-found : 64 < symbol-at tree (at .node) → {targets : ℕ} → Stands targets
-      (text-targets (rules-in s) (symbol-at tree (at .node) - 64))
-      → FindsNode (rules-in s) tree states (at .node) (record { targets = targets; looks = at .rules .ones })
-  unfolding node-targets node-looks
-  text-found l r =
-      rw (lt-ltb 64 (symbol-at tree (at .node)) l)
-      (record { reached = r; number = j .rules .texts; few = omega (arith, j .rules .texts, kind-few (j .indexed) (j .rules) 1) })
+  module _ {r : Symbol} (told : meaning r ≡ symbol-of symbol) where
+    module _ {k : ℕ} (is : r ≡ Text k) where
+      pub text-kind : (1 ≤ k) × (k ≤ 2)
+      text-kind = let (_, low, few, _) = text-said symbol (means told is) in (low, few)
 
-  pub tag-within : symbol-at tree (at .node) ≤ 64 → {inside : Found} → FindsInside (rules-in s) tree states (at .node) inside
-      → (1 ≤ symbol-at tree (at .node)) × (symbol-at tree (at .node) ≤ 64) × (inside .looks ≤ 2 ^ 42)
-  tag-within l f = (j .shaped .symbols (at .node) (j .node) .0, l, f .few)
+      pub text-found : {targets : ℕ} → Stands targets (text-targets (rules-in s) k)
+          → FindsNode (rules-in s) tree states (at .node) (record { targets = targets; looks = at .rules .ones })
+      unfolding node-targets node-looks
+      text-found r =
+          let (e, low, _, _) = text-said symbol (means told is) in
+          let kind : symbol - 64 ≡ k = omega arith in
+          rw (lt-ltb 64 symbol (omega arith), kind)
+          (record { reached = r; number = j .rules .texts; few = omega (arith, j .rules .texts, kind-few (j .indexed) (j .rules) 1) })
 
-  pub element-found : symbol-at tree (at .node) ≤ 64 → {inside f : Found} → FindsInside (rules-in s) tree states (at .node) inside
-      → TagFinds (rules-in s) (symbol-at tree (at .node)) inside f → FindsNode (rules-in s) tree states (at .node) f
-  unfolding node-targets node-looks inside-targets inside-looks element-targets element-looks
-  element-found l {inside} {f} h t = rw (le-ltb 64 (symbol-at tree (at .node)) l)
-      (go (child-states (words-inside tree states (at .node))) h)
-    where
-      go : (ws : Option (List ℕ)) → Finds (2 ^ 42) inside (inside-targets (rules-in s) ws) (inside-looks (rules-in s) ws)
-          → Finds (2 ^ 43) f (element-targets (rules-in s) (symbol-at tree (at .node)) ws) (element-looks (rules-in s) ws)
-      go none h = rw (no-tag (symbol-at tree (at .node)) (rules-in s)) at (t .found [] 0 h)
-      go (some w) h = t .found _ _ h
+    module _ {a : ℕ} (is : r ≡ Tag a) where
+      tag-is : (symbol ≡ a) × (1 ≤ a) × (a ≤ 64)
+      unfolding text-symbol
+      tag-is =
+          let (e, low, not-text) = tag-said symbol (means told is) in
+          let other : (n : ℕ) → text-symbol n ≡ true → symbol ≢ n = λ n y k. never (sym (rw k at not-text) ∙ y) in
+          (e, low, omega (arith, j .shaped .symbols (at .node) (j .node), other 65 refl, other 66 refl))
+
+      pub tag-within : {inside : Found} → FindsInside (rules-in s) tree states (at .node) inside → (1 ≤ a) × (a ≤ 64) ×
+          (inside .looks ≤ 2 ^ 42)
+      tag-within f = (tag-is .1, tag-is .2, f .few)
+
+      pub element-found : {inside f : Found} → FindsInside (rules-in s) tree states (at .node) inside → TagFinds (rules-in s) a inside f
+          → FindsNode (rules-in s) tree states (at .node) f
+      unfolding node-targets node-looks inside-targets inside-looks element-targets element-looks
+      element-found {inside} {f} h t =
+          let (e, _, few) = tag-is in
+          rw (le-ltb 64 symbol (omega arith), e) (go (child-states (words-inside tree states (at .node))) h)
+        where
+          go : (ws : Option (List ℕ)) → Finds (2 ^ 42) inside (inside-targets (rules-in s) ws) (inside-looks (rules-in s) ws)
+              → Finds (2 ^ 43) f (element-targets (rules-in s) a ws) (element-looks (rules-in s) ws)
+          go none h = rw (no-tag a (rules-in s)) at (t .found [] 0 h)
+          go (some w) h = t .found _ _ h
+
+    -- every node has a symbol
+    pub some-symbol : r ≢ Nothing
+    some-symbol is = omega (arith, nothing-said symbol (means told is), j .shaped .symbols (at .node) (j .node))

@@ -13,9 +13,10 @@ use judge_rules::Rules;
 use judge_rules::content;
 use judge_rules::tag_targets;
 use judge_rules::text_targets;
-use layout::MOST_TAGS;
 use layout::NODE_WORDS;
 use layout::wide;
+use symbols::Symbol;
+use symbols::symbol_of;
 
 // The children of a node: one of them has no state, or all of them have one, and this is their number.
 enum Children {
@@ -135,15 +136,20 @@ pub fn node(
     requires { ⌜ Judging (now sheet) (now index) at (now tree) (now states) (now words) ⌝ }
     ensures { λ f. ⌜ FindsNode (rules-in (now (sheet .entry))) (now (tree .entry)) (now (states .entry)) (at .node) f ⌝ }
 {
-    let symbol = tree[NODE_WORDS * at.node];
     let rules = at.rules;
-    // symbols above those of tags are texts, of a kind that is the rest
-    if MOST_TAGS < symbol {
-        return Found {
-            targets: text_targets(sheet, index, rules.number, symbol - MOST_TAGS),
+    match symbol_of(tree[NODE_WORDS * at.node]) {
+        Symbol::Text(kind) => Found {
+            targets: text_targets(sheet, index, rules.number, kind),
             looks: rules.ones,
-        };
+        },
+        Symbol::Tag(tag) => {
+            let found = inside(sheet, index, at, tree, states, words);
+            tagged(sheet, index, rules, tag, found)
+        }
+        // no node of a tree that passes
+        Symbol::Nothing => Found {
+            targets: 0,
+            looks: 0,
+        },
     }
-    let found = inside(sheet, index, at, tree, states, words);
-    tagged(sheet, index, rules, symbol, found)
 }

@@ -1,7 +1,6 @@
 -- `judge_node::node` meets its contract: a text, or an element by what is inside it.
-use native.Mathlib.Omega.{arith}
 use borrow.Author.Needs.{needs}
-use Rattle.judge_node.proofs.InsideLaws.{text-kind, text-found, tag-within, element-found}
+use Rattle.judge_node.proofs.InsideLaws.{text-kind, text-found, tag-within, element-found, some-symbol}
 use Rattle.judge_node.proofs.node.Statement.{statement}
 use Rattle.judge_node.proofs.node.Tie as tie
 
@@ -12,15 +11,27 @@ node-spec =
     (λ c. search needs)
     (λ c. search needs)
     (λ c. search needs)
-    (λ c. search needs)
-    (λ c κs.
-    let start = c .before .before .before .before .before .before .before .before .before in
-    ((start .pre .indexed, start .pre .rules .all), text-kind (start .pre) (c .if1 .taken)))
-    (λ c. search (text-found, needs))
     (λ c κs. search needs)
-    (λ c κs.
-    let left = c .before .before .before .before in
-    let start = left .before .before .before .before .before .before .before .before .before in
-    ((start .pre .indexed, start .pre .rules), tag-within (start .pre) (left .if1 .left) (c .before .before .inside .ensures)))
     (λ c. search needs)
-    (λ c. search (element-found, needs)))
+    (λ c κs. (
+      search needs,
+      text-kind (c .before .before .before .before .before .before .before .before .before .before .before .before .pre) (c .before .before .before .symbol-of .ensures)
+          (c .before .kind .given .1),
+    ))
+    (λ c. search needs)
+    (λ c κs. search needs)
+    (λ c κs. (
+      search needs,
+      tag-within (c .before .before .before .before .before .before .before .before .before .before .before .before .before .before .before .before .pre)
+          (c .before .before .before .before .before .before .before .symbol-of .ensures)
+          (c .before .before .before .before .before .tag .given .1) (c .before .before .inside .ensures),
+    ))
+    (λ c. search needs)
+    (λ c. text-found (c .before .before .before .before .before .before .before .before .before .before .before .before .before .pre)
+    (c .before .before .before .before .symbol-of .ensures) (c .before .before .kind .given .1) (c .text-targets .ensures))
+    (λ c. search needs)
+    (λ c. element-found (c .before .before .before .before .before .before .before .before .before .before .before .before .before .before .before .before .before .pre)
+    (c .before .before .before .before .before .before .before .before .symbol-of .ensures)
+    (c .before .before .before .before .before .before .tag .given .1) (c .before .before .before .inside .ensures) (c .tagged .ensures))
+    (λ c. absurd (some-symbol (c .before .before .before .before .before .before .before .before .before .before .before .pre)
+    (c .before .before .symbol-of .ensures) (c .enum-told .given .1))))
