@@ -1,181 +1,167 @@
 -- The index is made from the last rule to the first: each is put before the rules with its key that are there already.
-use mathlib.Core.Path.{_≡_, refl, sym, ap₂, _∙_}
-use mathlib.Core.Logic.{_≢_}
-use mathlib.Core.Bool.{cond}
-use mathlib.Core.List.{List, [], _∷_, _++_}
-use Prim.Native.Nat.{ℕ, suc, _+_, _-_, _*_, _^_, _≤_, _<_}
+use mathlib.Core.Path.{_≡_, refl, sym, ap, _∙_}
+use mathlib.Core.List.{List, [], _∷_, _++_, map, flatMap, append-assoc}
+use Prim.Native.Nat.{ℕ, zero, suc, _+_, _*_, _^_, _≤_, _<_}
 use native.Mathlib.Nat.{zero-add}
+use native.Mathlib.Numerals.{add-one}
 use native.Mathlib.Omega.{arith}
-use lib.Dec.{eqb, ltb}
-use lib.ListN.{length, getD, drop, set, length-set, length-append, length-drop, drop-of-length-le, List·getD-append}
-use lib.Seq.{drop-cons, getD-drop, getD-append-add, getD-set-same, getD-set-other}
-use borrow.Author.Tests as tests
-use Rattle.model.proofs.Tests.{Told, yea, nay, told, same, eqb-no, eqb-yes, eqb-false}
+use lib.Dec.{eqb}
+use lib.ListN.{length, getD, take, drop, set, replicate, length-set, length-append, length-drop, length-map, drop-of-length-le}
+use lib.ListN.{List·getD-append}
+use lib.Seq.{take-length, take-suc, drop-cons, drop-drop, split-at, append-snoc, set-at, set-append-left, length-take-le, ext-getD}
+use lib.Seq.{getD-set-same, getD-set-other}
+use Rattle.model.proofs.Tests.{Told, yea, nay, told, same, eqb-no}
+use Rattle.model.specs.Lists.{from, numbers}
 use Rattle.model.specs.Answers.{passes, buffer-after}
 use Rattle.model.specs.Sheet.{Rule, one}
 use Rattle.model.specs.Index.{sheet-in, rules-in, Passes, nth, begin, key, first-with, index-heads, entries, index-words}
+use Rattle.model.proofs.ListLaws.{length-from}
 use Rattle.model.proofs.PassedLaws.{in-range, rules-word, rules-there}
-use Rattle.model.proofs.IndexLaws.{heads-long, head-is, entries-long, entry-is, entry-last, first-is, rule-stands, begins-low}
+use Rattle.model.proofs.IndexLaws.{entries-long, first-is, numbers-nth, rule-stands, rule-next, begins-low}
 use Rattle.parts.proofs.LengthLaws.{key-of-rule, key-few}
-use Rattle.sheet_chains.specs.Entries.{HeadsAre, key-at, with-entry, EntryFits}
+use Rattle.sheet_chains.specs.Entries.{key-at, with-entry, EntryFits}
 
--- a word of a list in which one word is set
-pub set-there : (l : List ℕ) (i x k : ℕ) → i < length l → (P : ℕ → Type 0) → (k ≡ i → P x) → (k ≢ i → P (getD l k 0)) → P
-    (getD (set l i x) k 0)
-set-there l i x k h P here other = go (told (eqb k i))
+-- ---- heads
+
+-- one more head
+pub head-more : (n k : ℕ) (old : List ℕ) {index : List ℕ} → index ≡ replicate k n ++ drop k old → k < length old
+    → set index k n ≡ replicate (k + 1) n ++ drop (k + 1) old
+head-more n k old e l = rw (e, add-one k) (go k old l)
   where
-    go : Told (eqb k i) → P (getD (set l i x) k 0)
-    go (yea t) = let e : k ≡ i = same k i t in rw (e, getD-set-same l i x 0 h) (here e)
-    go (nay t) = let d = eqb-no {m = k} {n = i} t in rw (getD-set-other l i k x 0 d) (other d)
+    go : (k : ℕ) (old : List ℕ) → k < length old → set (replicate k n ++ drop k old) k n ≡ replicate (suc k) n ++ drop (suc k) old
+    go k [] l = absurd (omega arith)
+    go zero (x ∷ old) l = refl
+    go (suc k) (x ∷ old) l = ap (λ (r : List ℕ). n ∷ r) (go k old (omega arith))
 
--- the first k heads are n, and all else is as it was
-pub record Clearing (n : ℕ) (old index : List ℕ) (k : ℕ) : Type 0 where
-  pub long : length index ≡ length old
-  pub heads : (j : ℕ) → j < k → getD index j 0 ≡ n
-  pub others : (j : ℕ) → k ≤ j → getD index j 0 ≡ getD old j 0
+-- for each key the first of the rules from number j on
+abbrev heads : List Rule → ℕ → List ℕ
+heads R j = map (λ k. first-with k j (drop j R)) (numbers 67)
 
-pub clearing-none : {n : ℕ} {index : List ℕ} → Clearing n index index 0
-clearing-none = record { long = refl; heads = λ j l. absurd (omega arith); others = λ j l. refl }
+length-heads : (R : List Rule) (j : ℕ) → length (heads R j) ≡ 67
+length-heads R j = length-map (numbers 67) (λ k. first-with k j (drop j R)) ∙ length-from 67 0
 
-module _ {n k : ℕ} {old index : List ℕ} (h : Clearing n old index k) where
-  pub clearing-more : k < length index → Clearing n old (set index k n) (k + 1)
-  clearing-more l = record {
-    long = length-set index k n ∙ h .long;
-    heads = λ j m. set-there index k n j l (λ x. x ≡ n) (λ _. refl) (λ d. h .heads j (omega (arith, d)));
-    others = λ j m. set-there index k n j l (λ x. x ≡ getD old j 0) (λ e. absurd (omega arith)) (λ d. h .others j (omega arith));
-  }
+head-nth : (R : List Rule) (j k : ℕ) → k < 67 → getD (heads R j) k 0 ≡ first-with k j (drop j R)
+head-nth R j k l = rw (zero-add k) at (numbers-nth (λ k. first-with k j (drop j R)) 0 67 0 k l)
 
-  pub clearing-all : 67 ≤ k → k ≤ 67 → HeadsAre n old index
-  clearing-all l m = record { long = h .long; heads = λ j i. h .heads j (omega arith); others = λ j i. h .others j (omega arith) }
-
--- lists that agree at each index; what holds at each index of two lists, one after the other
-getD-ext : (xs ys : List ℕ) (d : ℕ) → length xs ≡ length ys → ((i : ℕ) → i < length xs → getD xs i d ≡ getD ys i d) → xs ≡ ys
-getD-ext [] [] d e h = refl
-getD-ext [] (y ∷ ys) d e h = absurd (omega arith)
-getD-ext (x ∷ xs) [] d e h = absurd (omega arith)
-getD-ext (x ∷ xs) (y ∷ ys) d e h = ap₂ {C = List ℕ} _∷_ (h 0 (omega arith))
-    (getD-ext xs ys d (omega arith) (λ i l. h (suc i) (omega arith)))
-
-in-parts : (a b : List ℕ) (P : ℕ → ℕ → Type 0) → ((i : ℕ) → i < length a → P i (getD a i 0)) → ((k : ℕ) → P (length a + k) (getD b k 0)) →
-    (i : ℕ)
-    → P i (getD (a ++ b) i 0)
-in-parts a b P first second i = go (told (ltb i (length a)))
+-- rule j becomes the first of its key
+heads-next : (R : List Rule) (j : ℕ) → j < length R → key (nth R j) < 67 → set (heads R (suc j)) (key (nth R j)) j ≡ heads R j
+unfolding first-with
+heads-next R j l few =
+    let long = length-set (heads R (suc j)) (key (nth R j)) j ∙ length-heads R (suc j) in
+    ext-getD 0 (set (heads R (suc j)) (key (nth R j)) j) (heads R j) (long ∙ sym (length-heads R j))
+    (λ k m. sym (head-nth R j k (omega (arith, long)) ∙ rw (drop-cons R j (one 0 0) l) (go k (omega (arith, long)) (told (eqb (key (nth R j)) k)))))
   where
-    go : Told (ltb i (length a)) → P i (getD (a ++ b) i 0)
-    go (yea t) = let l = tests.ltb-true i (length a) t in rw (List·getD-append a b 0 i l) (first i l)
-    go (nay t) =
-        let l = tests.ltb-false i (length a) t in
-        let e : i ≡ length a + (i - length a) = omega arith in
-        rw (e, getD-append-add a b (i - length a) 0) (second (i - length a))
+    go : (k : ℕ) → k < 67 → Told (eqb (key (nth R j)) k)
+        → first-with k j (nth R j ∷ drop (suc j) R) ≡ getD (set (heads R (suc j)) (key (nth R j)) j) k 0
+    go k m (yea t) =
+        let e : key (nth R j) ≡ k = same (key (nth R j)) k t in
+        rw (t, ← e, getD-set-same (heads R (suc j)) (key (nth R j)) j 0 (omega (arith, length-heads R (suc j))))
+    go k m (nay t) =
+        rw (t, getD-set-other (heads R (suc j)) (key (nth R j)) k j 0 (λ e. eqb-no {m = key (nth R j)} {n = k} t (sym e)))
+        (sym (head-nth R (suc j) k m))
 
 -- ---- the rules from number j on
-
-entry-here : (p : ℕ) (R : List Rule) (j : ℕ) → j < length R
-    → getD (entries p 6 0 R) j 0 ≡ begin p 6 R j + first-with (key (nth R j)) (suc j) (drop (suc j) R) * 2 ^ 16
-entry-here p R j l = rw (zero-add (suc j)) at (entry-is p 6 0 R j l)
 
 pub entry-put : (s index : List ℕ) (at j : ℕ) {key : ℕ} → key ≡ key-at s at → set
     (set index (67 + j) (at + getD index key 0 * 2 ^ 16)) key j ≡ with-entry s index j at
 unfolding with-entry
 entry-put s index at j e = rw e
 
--- they are in the index, and all after the index's last word is as it was
+-- a word after two lists
+set-after : (h t : List ℕ) (x w : ℕ) (r : List ℕ) (n : ℕ) → length h + length t ≡ n → set (h ++ (t ++ x ∷ r)) n w ≡ h ++ (t ++ w ∷ r)
+set-after h t x w r n e =
+    ap (λ (l : List ℕ). set l n w) (sym (append-assoc h t (x ∷ r))) ∙ set-at (h ++ t) x r w n (length-append h t ∙ e)
+    ∙ append-assoc h t (w ∷ r)
+
+-- the entries of a sheet's rules from number j on
+abbrev entries-in : List ℕ → ℕ → List ℕ
+entries-in s j = entries (sheet-in s .states) (begin (sheet-in s .states) 6 (rules-in s) j) j (drop j (rules-in s))
+
+-- what is after a sheet's index
+abbrev rest : List ℕ → List ℕ → List ℕ
+rest s old = drop (68 + length (rules-in s)) old
+
+-- heads and entries are in the index, and all else is as it was
 pub record Chaining (s old index : List ℕ) (j : ℕ) : Type 0 where
   pub long : length index ≡ length old
   pub few : j ≤ length (rules-in s)
-  pub heads : (k : ℕ) → k < 67 → getD index k 0 ≡ first-with k j (drop j (rules-in s))
-  pub there : (k : ℕ) → j ≤ k → k ≤ length (rules-in s) → getD index (67 + k) 0 ≡ getD (entries (sheet-in s .states) 6 0 (rules-in s)) k 0
-  pub rest : (k : ℕ) → 67 + length (rules-in s) < k → getD index k 0 ≡ getD old k 0
+  pub words : index ≡ heads (rules-in s) j ++ (take j (drop 67 old) ++ (entries-in s j ++ rest s old))
 
 module _ {s : List ℕ} (ok : Passes s) where
   -- with no rule there is only the end
-  pub chaining-none : {old cleared : List ℕ} {n j : ℕ} → HeadsAre n old cleared → n ≡ getD s 5 0 → j ≡ n → length old ≡ 1092 → Chaining s
-      old (set cleared (67 + j) (length s)) j
-  unfolding first-with
+  pub chaining-none : {old cleared : List ℕ} {n j : ℕ} → cleared ≡ replicate 67 n ++ drop 67 old → n ≡ getD s 5 0 → j ≡ n
+      → length old ≡ 1092 → Chaining s old (set cleared (67 + j) (length s)) j
+  unfolding first-with entries from
   chaining-none {old} {cleared} {n} {j} h e f room =
       let number : j ≡ length (rules-in s) = f ∙ e ∙ rules-word ok in
-      let inside : 67 + j < length cleared = omega (arith, h .long, in-range ok .few-rules) in
-      let end : length s ≡ getD (entries (sheet-in s .states) 6 0 (rules-in s)) (length (rules-in s)) 0
-      = rules-there ok .ends ∙ sym (entry-last (sheet-in s .states) 6 0 (rules-in s)) in
+      let tail = drop 67 old in
+      let inside : j < length tail = omega (arith, length-drop 67 old, in-range ok) in
+      let none : drop j (rules-in s) ≡ [] = drop-of-length-le (rules-in s) {i = j} (omega arith) in
+      let end : length s ≡ begin (sheet-in s .states) 6 (rules-in s) j
+      = rules-there ok .ends ∙ rw (number, take-length (rules-in s)) in
+      let after-j : 67 + suc j ≡ 68 + length (rules-in s) = omega arith in
       record {
-        long = length-set cleared (67 + j) (length s) ∙ h .long;
+        long = simp length-set (omega (arith, ap length h, length-append (replicate 67 n) tail, length-drop 67 old));
         few = omega arith;
-        heads = λ k l. rw (drop-of-length-le (rules-in s) {i = j} (omega arith))
-            (set-there cleared (67 + j) (length s) k inside (λ x. x ≡ j) (λ e. absurd (omega arith)) (λ _. h .heads k l ∙ sym f));
-        there = λ k l m.
-            let k-is : k ≡ length (rules-in s) = omega arith in
-            set-there cleared (67 + j) (length s) (67 + k) inside (λ x. x ≡ getD (entries (sheet-in s .states) 6 0 (rules-in s)) k 0)
-            (λ _. rw k-is end) (λ d. absurd (omega arith));
-        rest = λ k l. set-there cleared (67 + j) (length s) k inside (λ x. x ≡ getD old k 0) (λ e. absurd (omega arith))
-            (λ _. h .others k (omega arith));
+        words = ap (λ (l : List ℕ). set l (67 + j) (length s)) (h ∙ ap (λ (l : List ℕ). replicate 67 n ++ l) (split-at tail j 0 inside))
+            ∙ set-after (replicate 67 n) (take j tail) (getD tail j 0) (length s) (drop (suc j) tail) (67 + j)
+            (omega (arith, length-take-le j tail (omega arith)))
+            ∙ rw (none, ← end, drop-drop (suc j) 67 old, after-j, f);
       }
 
   module _ {old index : List ℕ} {i j : ℕ} (h : Chaining s old index i) (next : i ≡ suc j) (room : length old ≡ 1092) where
     number : j < length (rules-in s)
     number = omega (arith, h .few)
 
+    head : (k : ℕ) → k < 67 → getD index k 0 ≡ first-with k i (drop i (rules-in s))
+    head k l =
+        rw (h .words) (List·getD-append (heads (rules-in s) i) _ 0 k (omega (arith, length-heads (rules-in s) i)) ∙ head-nth (rules-in s) i k l)
+
     pub entry-fits : {at : ℕ} → at ≡ begin (sheet-in s .states) 6 (rules-in s) j → EntryFits index j at
     entry-fits e = record {
       room = h .long ∙ room;
-      rule = omega (arith, number, in-range ok .few-rules);
+      rule = omega (arith, number, in-range ok);
       place = omega (arith, begins-low ok j (omega (arith, number)));
-      heads = λ k l.
-          omega (arith, h .heads k l, first-is (rules-in s) k i (drop i (rules-in s)) (h .few) refl .few, in-range ok .few-rules);
+      heads = λ k l. omega (arith, head k l, first-is (rules-in s) k i (drop i (rules-in s)) (h .few) refl, in-range ok);
     }
 
     pub chaining-more : {at : ℕ} → at ≡ begin (sheet-in s .states) 6 (rules-in s) j → Chaining s old (with-entry s index j at) j
-    unfolding with-entry first-with
+    unfolding with-entry entries
     chaining-more {at} e =
         let R = rules-in s in
         let r = nth R j in
+        let t = take j (drop 67 old) in
+        let later = entries-in s (suc j) ++ rest s old in
+        let x = getD (drop 67 old) j 0 in
+        let w : ℕ = begin (sheet-in s .states) 6 R j + first-with (key r) (suc j) (drop (suc j) R) * 2 ^ 16 in
         let k-is : key-at s at ≡ key r = key-of-rule {p = sheet-in s .states} {a = at} {s = s} r (rw e (rule-stands ok j number)) in
         let few : key r < 67 = rw k-is at (key-few (getD s at 0) (getD s (at + 1) 0)) in
-        let w : ℕ = at + getD index (key r) 0 * 2 ^ 16 in
-        let split : drop j R ≡ r ∷ drop (suc j) R = drop-cons R j (one 0 0) number in
-        let in-first : 67 + j < length index = omega (arith, h .long, in-range ok .few-rules, number) in
-        let in-second : key r < length (set index (67 + j) w) = omega (arith, length-set index (67 + j) w, h .long) in
-        let head : getD index (key r) 0 ≡ first-with (key r) (suc j) (drop (suc j) R) = rw next at (h .heads (key r) few) in
-        rw k-is (record {
-          long = length-set (set index (67 + j) w) (key r) j ∙ length-set index (67 + j) w ∙ h .long;
+        let inside : j < length (drop 67 old) = omega (arith, length-drop 67 old, in-range ok, number) in
+        let start : index ≡ heads R (suc j) ++ (t ++ x ∷ later)
+        = rw next at (h .words) ∙ ap (λ (l : List ℕ). heads R (suc j) ++ l)
+        (ap (λ (l : List ℕ). l ++ later) (take-suc (drop 67 old) j 0 inside) ∙ append-snoc t x later) in
+        let here : w ∷ entries-in s (suc j) ≡ entries-in s j
+        = rw (drop-cons R j (one 0 0) number) (ap (λ (n : ℕ). w ∷ entries (sheet-in s .states) n (suc j) (drop (suc j) R)) (rule-next ok j number)) in
+        record {
+          long = simp length-set (h .long);
           few = omega (arith, number);
-          heads = λ k l. rw split
-              (set-there (set index (67 + j) w) (key r) j k in-second
-              (λ x. x ≡ cond (eqb (key r) k) j (first-with k (suc j) (drop (suc j) R)))
-              (λ same-key. rw (eqb-yes {m = key r} {n = k} (sym same-key)))
-              (λ other. rw (eqb-false {m = key r} {n = k} (λ z. other (sym z)))
-              (set-there index (67 + j) w k in-first (λ x. x ≡ first-with k (suc j) (drop (suc j) R)) (λ z. absurd (omega arith))
-              (λ _. rw next at (h .heads k l)))));
-          there = λ k l m.
-              set-there (set index (67 + j) w) (key r) j (67 + k) in-second (λ x. x ≡ getD (entries (sheet-in s .states) 6 0 R) k 0)
-              (λ z. absurd (omega arith))
-              (λ _. set-there index (67 + j) w (67 + k) in-first (λ x. x ≡ getD (entries (sheet-in s .states) 6 0 R) k 0)
-              (λ z. let here : k ≡ j = omega arith in rw here (omega (arith, head, e, entry-here (sheet-in s .states) R j number)))
-              (λ d. h .there k (omega (arith, d)) m));
-          rest = λ k l.
-              set-there (set index (67 + j) w) (key r) j k in-second (λ x. x ≡ getD old k 0) (λ z. absurd (omega arith))
-              (λ _. set-there index (67 + j) w k in-first (λ x. x ≡ getD old k 0) (λ z. absurd (omega (arith, number))) (λ _. h .rest k l));
-        })
+          words = rw (k-is, rw next at (head (key r) few), e)
+              (ap (λ (l : List ℕ). set (set l (67 + j) w) (key r) j) start
+              ∙ ap (λ (l : List ℕ). set l (key r) j) (set-after (heads R (suc j)) t x w later (67 + j)
+              (omega (arith, length-heads R (suc j), length-take-le j (drop 67 old) (omega arith))))
+              ∙ set-append-left (heads R (suc j)) (t ++ w ∷ later) (key r) j (omega (arith, length-heads R (suc j)))
+              ∙ ap (λ (l : List ℕ). l ++ (t ++ w ∷ later)) (heads-next R j number few)
+              ∙ ap (λ (l : List ℕ). heads R j ++ (t ++ (l ++ rest s old))) here);
+        }
 
   -- all rules are in the index, which is at the front
-  pub chaining-all : {old index : List ℕ} {j : ℕ} → Chaining s old index j → j ≤ 0 → length old ≡ 1092
+  pub chaining-all : {old index : List ℕ} {j : ℕ} → Chaining s old index j → j ≤ 0
       → index ≡ buffer-after old (passes (index-words (sheet-in s)))
-  unfolding buffer-after index-words
-  chaining-all {old} {index} {j} h l room =
+  unfolding buffer-after index-words index-heads flatMap
+  chaining-all {old} {index} {j} h l =
       let R = rules-in s in
       let table = entries (sheet-in s .states) 6 0 R in
-      let words = index-heads R ++ table in
-      let n = length words in
       let none : j ≡ 0 = omega arith in
-      let long : n ≡ 68 + length R = omega (
-        arith,
-        length-append (index-heads R) table,
-        heads-long R,
-        entries-long (sheet-in s .states) 6 0 R,
-      ) in
-      getD-ext index (words ++ drop n old) 0
-      (omega (arith, h .long, length-append words (drop n old), length-drop n old, in-range ok .few-rules))
-      (λ i m. in-parts words (drop n old) (λ i x. getD index i 0 ≡ x)
-      (λ i k. in-parts (index-heads R) table (λ i x. i < n → getD index i 0 ≡ x)
-      (λ i k _. (rw none at (h .heads i (omega (arith, heads-long R)))) ∙ sym (head-is R i (omega (arith, heads-long R))))
-      (λ k m. rw (heads-long R) (h .there k (omega arith) (omega (arith, heads-long R)))) i k)
-      (λ k. h .rest (n + k) (omega arith) ∙ sym (getD-drop n old k 0)) i)
+      let long : length (heads R 0 ++ table) ≡ 68 + length R
+      = omega (arith, length-append (heads R 0) table, length-heads R 0, entries-long (sheet-in s .states) 6 0 R) in
+      (rw none at (h .words)) ∙ sym (append-assoc (heads R 0) table (rest s old)) ∙ rw long

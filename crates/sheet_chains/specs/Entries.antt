@@ -5,12 +5,6 @@ use Prim.Native.Nat.{ℕ, _+_, _*_, _^_, _≤_, _<_}
 use lib.ListN.{length, getD, set}
 use Rattle.parts.specs.Lengths.{key-by}
 
--- every head is n, and all else is as it was
-pub record HeadsAre (n : ℕ) (before after : List ℕ) : Type 0 where
-  pub long : length after ≡ length before
-  pub heads : (k : ℕ) → k < 67 → getD after k 0 ≡ n
-  pub others : (k : ℕ) → 67 ≤ k → getD after k 0 ≡ getD before k 0
-
 -- the key of the rule that begins at a word
 abbrev pub key-at : List ℕ → ℕ → ℕ
 key-at s at = key-by (getD s at 0) (getD s (at + 1) 0)

@@ -1,11 +1,12 @@
 // The index of a sheet, by where its rules begin: the rules with the same key in a chain.
 ghost use mathlib.Core.Path.{_≡_};
+ghost use mathlib.Core.List.{_++_};
 ghost use Prim.Native.Nat.{_≤_};
-ghost use lib.ListN.{length};
+ghost use lib.ListN.{length, drop, replicate};
 ghost use Rattle.model.specs.Answers.{passes, buffer-after};
 ghost use Rattle.model.specs.Index.{sheet-in, index-words};
 ghost use Rattle.sheet_rules.specs.Places.{Placed};
-ghost use Rattle.sheet_chains.specs.Entries.{HeadsAre, EntryFits, with-entry};
+ghost use Rattle.sheet_chains.specs.Entries.{EntryFits, with-entry};
 use layout::ENTRIES;
 use layout::KEYS;
 use layout::RULES;
@@ -16,7 +17,7 @@ const UPPER: u32 = 65536;
 // Every key's first rule is rule n.
 fn clear_heads(index: &mut [u32], n: u32)
     requires { ⌜ 67 ≤ length (now index) ⌝ }
-    ensures { λ _. ⌜ HeadsAre n (now (index .entry)) (now (index .exit)) ⌝ }
+    ensures { λ _. ⌜ now (index .exit) ≡ replicate 67 n ++ drop 67 (now (index .entry)) ⌝ }
 {
     let mut k = 0;
     while k < KEYS {

@@ -7,10 +7,9 @@ use lib.ListN.{length, getD}
 use Rattle.model.specs.Sheet.{Reader, word, between, set-below}
 use Rattle.model.specs.Spans.{WordsAt}
 use Rattle.model.specs.Index.{sheet-in, rules-in, Passes}
-use Rattle.model.proofs.Spans.{Reads, repeated, between-reads, span-word}
+use Rattle.model.proofs.Spans.{Reads, between-reads, span-word}
 use Rattle.model.proofs.SetWords.{set-reads}
-use Rattle.model.proofs.SheetCode.{rule-reads}
-use Rattle.model.proofs.PassedLaws.{in-range, few-words, edition-word, states-word, final-there, tags-word, rules-word, rules-there}
+use Rattle.model.proofs.PassedLaws.{in-range, few-words, edition-word, states-word, final-there, tags-word, rules-word}
 use Rattle.sheet_walk.specs.declared.Walk.{Walk}
 use Rattle.sheet_walk.specs.declared.Walk.the-variants.{At}
 use Rattle.sheet_walk.specs.Walks.{left-at, after, word-at}
@@ -39,36 +38,31 @@ module _ {s : List ℕ} (ok : Passes s) {edition sized finals tags first : Walk}
     (eg : g ≡ word-at s finals) (e₄ : tags ≡ after (word (between 1 64)) s finals) (en : n ≡ word-at s tags)
     (e₅ : first ≡ after (word (between 0 1024)) s tags) where
   past-edition : edition ≡ At 1
-  past-edition = on-word s 0 (omega (arith, edition-word ok), omega (arith, edition-word ok)) (omega (arith, few-words ok .0)) refl e₁
+  past-edition = on-word s 0 (omega (arith, edition-word ok), omega (arith, edition-word ok)) (omega (arith, few-words ok)) refl e₁
 
   states : p ≡ sheet-in s .states
   states = word-of s past-edition ep ∙ states-word ok
 
   past-states : sized ≡ At 2
-  past-states =
-      let r = in-range ok in
-      on-word s 1 (omega (arith, states-word ok, r .some-states), omega (arith, states-word ok, r .few-states))
-      (omega (arith, few-words ok .0)) past-edition e₂
+  past-states = on-word s 1 (omega (arith, states-word ok, in-range ok), omega (arith, states-word ok, in-range ok))
+      (omega (arith, few-words ok)) past-edition e₂
 
   past-final : finals ≡ At 4
   past-final = on-part (set-reads (sheet-in s .states)) (in-range ok .final) (final-there ok) past-states (rw states at e₃)
 
   past-tags : tags ≡ At 5
-  past-tags =
-      let r = in-range ok in
-      on-word s 4 (omega (arith, tags-word ok, r .some-tags), omega (arith, tags-word ok, r .few-tags))
-      (omega (arith, few-words ok .0)) past-final e₄
+  past-tags = on-word s 4 (omega (arith, tags-word ok, in-range ok), omega (arith, tags-word ok, in-range ok))
+      (omega (arith, few-words ok)) past-final e₄
 
-  past-number : first ≡ At 6
-  past-number = on-word s 5 (omega arith, omega (arith, rules-word ok, in-range ok .few-rules))
-      (omega (arith, few-words ok .0)) past-tags e₅
+  number : n ≡ length (rules-in s)
+  number = word-of s past-tags en ∙ rules-word ok
 
   -- so the table has where its rules begin
-  pub whole-noted : {places : List ℕ} → Begins p g n s first places → BeginsOf (sheet-in s .states) 6 (rules-in s) places
-  whole-noted h =
-      let r = in-range ok in
-      let g-is : g ≡ sheet-in s .tags = word-of s past-final eg ∙ tags-word ok in
-      let n-is : n ≡ length (rules-in s) = word-of s past-tags en ∙ rules-word ok in
-      let read = repeated (rule-reads (sheet-in s .states) (sheet-in s .tags) (r .few-states)) (length (rules-in s)) .backwards
-      (refl, r .rules) (rules-there ok) in
-      (rw (states, g-is, n-is) at h) .noted past-number read (r .few-states) (few-words ok .1)
+  pub whole-noted : {places : List ℕ} → Begins p g n s first places → BeginsOf (length (rules-in s)) s places
+  whole-noted h k l = h .noted (record {
+    sheet = ok;
+    states = states;
+    tags = word-of s past-final eg ∙ tags-word ok;
+    number = number;
+    begins = on-word s 5 (omega arith, omega (arith, rules-word ok, in-range ok)) (omega (arith, few-words ok)) past-tags e₅;
+  }) k (omega (arith, number))

@@ -1,12 +1,15 @@
 -- `sheet_chains::clear_heads` meets its contract.
+use mathlib.Core.Path.{_≡_, refl}
+use mathlib.Core.List.{_++_}
 use Prim.Native.Nat.{_-_, _≤_}
 use native.Mathlib.Omega.{arith}
-use Rattle.sheet_chains.proofs.ChainLaws.{Clearing, clearing-none, clearing-more, clearing-all}
+use lib.ListN.{length, drop, replicate, length-set}
+use Rattle.sheet_chains.proofs.ChainLaws.{head-more}
 use Rattle.sheet_chains.proofs.clear_heads.Statement.{statement}
 use Rattle.sheet_chains.proofs.clear_heads.Tie as tie
 
 abbrev Inv-loop : tie.InvT-loop
-Inv-loop index₀ n k₀ index k = Clearing n index₀ index k × (k ≤ 67)
+Inv-loop index₀ n k₀ index k = (index ≡ replicate k n ++ drop k index₀) × (length index ≡ length index₀) × (k ≤ 67)
 
 abbrev μ-loop : tie.MeasureT-loop
 μ-loop index₀ n k₀ index k = 67 - k
@@ -17,11 +20,13 @@ clear-heads-spec =
     (tie.spec
     Inv-loop
     μ-loop
-    (λ c. (clearing-none, omega arith))
-    (λ c. omega (arith, c .before .before .pre, c .before .loop .inv .0 .long))
-    (λ c. omega (arith, c .before .before .pre, c .before .loop .inv .0 .long))
+    (λ c. (refl, refl, omega arith))
     (λ c. omega arith)
     (λ c. omega arith)
-    (λ c. (clearing-more (c .before .loop .inv .0) (omega (arith, c .before .before .pre, c .before .loop .inv .0 .long)), omega arith))
-    (λ c. c .before .loop .inv .0 .long)
-    (λ c. clearing-all (c .before .loop .inv .0) (c .loop-test .left) (c .before .loop .inv .1)))
+    (λ c. omega arith)
+    (λ c. omega arith)
+    (λ c. (head-more _ _ _ (c .before .loop .inv .0) (omega arith), simp length-set (c .before .loop .inv .1), omega arith))
+    (λ c. c .before .loop .inv .1)
+    (λ c.
+    let e : c .before .loop .k ≡ 67 = omega arith in
+    rw e at (c .before .loop .inv .0)))
