@@ -3,17 +3,10 @@
 ghost use mathlib.Core.Path.{_≡_};
 ghost use lib.ListN.{length};
 
-mod buffers;
-mod calls;
-mod lexer;
 mod lines;
-mod print;
 mod run;
-mod scan;
-mod store;
-mod values;
 
-use store::STORE_WORDS;
+use cases_store::store::STORE_WORDS;
 
 const STDIN: i32 = 0;
 

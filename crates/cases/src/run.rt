@@ -1,25 +1,28 @@
 // The calls, on the values of a case. Each prints its answer, and gives how many words of the lent buffer that counts.
-use crate::buffers::front_bytes;
-use crate::buffers::narrow;
-use crate::buffers::no_bytes;
-use crate::buffers::widen;
-use crate::calls::JUDGE;
-use crate::calls::NAMES;
-use crate::calls::READ;
-use crate::calls::SHEET;
-use crate::calls::SHEET_FROM_FILE;
-use crate::calls::SWAP;
-use crate::calls::TREE;
-use crate::calls::WRITE;
-use crate::print::answer;
-use crate::print::judgement;
-use crate::print::text;
-use crate::scan::bytes_of;
-use crate::store::word_at;
+use cases_print::answer;
+use cases_print::judgement;
+use cases_print::text;
+use cases_store::buffers::front_bytes;
+use cases_store::buffers::narrowed;
+use cases_store::buffers::no_bytes;
+use cases_store::scan::bytes_of;
+use cases_store::store::Store;
+use cases_store::store::word_at;
+use cases_values::calls::JUDGE;
+use cases_values::calls::NAMES;
+use cases_values::calls::READ;
+use cases_values::calls::SHEET;
+use cases_values::calls::SHEET_FROM_FILE;
+use cases_values::calls::SWAP;
+use cases_values::calls::TREE;
+use cases_values::calls::VERDICT;
+use cases_values::calls::WRITE;
+use cases_values::values::Values;
+use cases_values::values::value_of;
 
 // ---- calls on words
 
-pub(crate) fn on_words(call: usize, x: &[u32], y: &[u32], out: &mut [u32]) -> usize {
+fn on_words(call: usize, x: &[u32], y: &[u32], out: &mut [u32]) -> usize {
     match call {
         TREE => answer(tree::check(y, word_at(x, 0))),
         SHEET => answer(sheet::check(x)),
@@ -37,23 +40,12 @@ fn read(list: &[u8], text: &[u8], out: &mut [u32]) -> usize {
 }
 
 // Writes to as many bytes as `out` has words, prints them, and puts each into a word.
-fn write_into(
-    list: &[u8],
-    source: &[u8],
-    tree: &[u32],
-    bytes: &mut [u8],
-    out: &mut [u32],
-) -> usize {
-    let lent = front_bytes(bytes, out.len());
+fn write(list: &[u8], source: &[u8], tree: &[u32], out: &mut [u32]) -> usize {
+    let mut bytes = no_bytes();
+    let lent = front_bytes(&mut bytes, out.len());
     let n = answer(writer::write(list, source, tree, lent));
-    widen(lent, out);
     text(lent, out);
     n
-}
-
-fn write(list: &[u8], text: &[u8], tree: &[u32], out: &mut [u32]) -> usize {
-    let mut bytes = no_bytes();
-    write_into(list, text, tree, &mut bytes, out)
 }
 
 // The third value is given as bytes and as words.
@@ -67,13 +59,10 @@ fn with_bytes(call: usize, a: &[u8], b: &[u8], c: &[u8], z: &[u32], out: &mut [u
     }
 }
 
-pub(crate) fn on_bytes(call: usize, x: &[u32], y: &[u32], z: &[u32], out: &mut [u32]) -> usize {
-    let mut a = no_bytes();
-    let mut b = no_bytes();
-    let mut c = no_bytes();
-    narrow(x, &mut a);
-    narrow(y, &mut b);
-    narrow(z, &mut c);
+fn on_bytes(call: usize, x: &[u32], y: &[u32], z: &[u32], out: &mut [u32]) -> usize {
+    let a = narrowed(x);
+    let b = narrowed(y);
+    let c = narrowed(z);
     with_bytes(
         call,
         bytes_of(&a, 0, x.len()),
@@ -82,4 +71,15 @@ pub(crate) fn on_bytes(call: usize, x: &[u32], y: &[u32], z: &[u32], out: &mut [
         z,
         out,
     )
+}
+
+// ---- the call of a case
+
+pub(crate) fn run(words: &Store, v: Values, out: &mut [u32]) -> usize {
+    let x = value_of(words, v, 0);
+    let y = value_of(words, v, 1);
+    if v.call <= VERDICT {
+        return on_bytes(v.call, x, y, value_of(words, v, 2), out);
+    }
+    on_words(v.call, x, y, out)
 }
