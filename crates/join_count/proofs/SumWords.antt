@@ -13,9 +13,10 @@ use Rattle.model.specs.Sheet.{W, mask, set-words, bit, members, Coefficient, si
 use Rattle.model.specs.Compose.{pair, Side, S, T, half, Sizes, coefficient-of, lift-sum}
 use Rattle.model.proofs.Tests.{Told, yea, nay, told, same, eqb-yes, eqb-no, eqb-false}
 use Rattle.model.proofs.ListLaws.{∈-has, has-∈, has-no, ∈-map, map-∈, map-each, each-append, ∈-each, each-∈, ∈-only, only-test, only-eq}
-use Rattle.model.proofs.ListLaws.{from-∈, ∈-numbers, numbers-<, grid-∈, asc-ext, asc-from, asc-grid}
+use Rattle.model.proofs.ListLaws.{from-∈, ∈-numbers, ∈-filter, numbers-<, grid-∈, asc-ext, asc-from, asc-grid}
 use Rattle.model.specs.Compose.{of-side, of-pairs}
-use Rattle.model.proofs.Pairs.{either, half-pair, ∈-pairs}
+use Rattle.model.proofs.Pairs.{either, half-pair, half-below, ∈-pairs}
+use Rattle.model.proofs.JoinRange.{lifted-marks}
 use Rattle.model.proofs.SetWords.{bit-mask}
 use Rattle.model.proofs.Spans.{word-here, span-right}
 use Rattle.bits.proofs.BitLaws.{mask-like}
@@ -23,12 +24,11 @@ use Rattle.bits.proofs.SetLaws.{words-stand, stands-members}
 use Rattle.parts.specs.Lengths.{sum-length}
 use Rattle.page.specs.Sets.{pair-set}
 use Rattle.page.proofs.SetLaws.{few-pairs}
-use Rattle.page.specs.Page.{repeated}
+use Rattle.page.specs.Page.{repeated, repeated-each}
 use Rattle.join_count.specs.declared.SumHead.{SumHead}
 use Rattle.model.specs.Spans.{SumAt}
 use Rattle.join_count.specs.Counts.{times-in, SumOf}
-use Rattle.join_count.specs.Sums.{lifted-times}
-use Rattle.join_pairs.proofs.NumberLaws.{few-S, few-T, half-below}
+use Rattle.join_pairs.proofs.NumberLaws.{few-S, few-T}
 use Rattle.join_pairs.specs.Sides.{FewPairs}
 use Rattle.model.proofs.PartLaws.{words-from, words-within}
 
@@ -78,7 +78,7 @@ module _ (n : Sizes) (some : 1 ≤ n .of-T) where
       (asc-grid (n .of-T) (states n S) (states n T) (asc-from (n .of-S) 0) (asc-from (n .of-T) 0) (λ t m. numbers-< (n .of-T) m))
       (λ x m.
       ∈-pairs (n .of-T) (states n) (λ t k. numbers-< (n .of-T) k) x .1
-      (λ side. ∈-numbers (of-side side n) (half-below side n some (numbers-< (of-pairs n) m))))
+      (λ side. ∈-numbers (of-side side n) (half-below side n (numbers-< (of-pairs n) m))))
       (λ x m.
       let (s, t, i, j, e) = grid-∈ (pair (n .of-T)) (states n S) (states n T) m in
       ∈-numbers (of-pairs n) (rw e (digits-lt (numbers-< (n .of-S) i) (numbers-< (n .of-T) j))))
@@ -185,62 +185,42 @@ module _ {p a : ℕ} {s : List ℕ} {cs : List Coefficient} (few : p ≤ 64) (h 
       = stands-members (words-stand p (marks cs) few (h .ranges .marked) refl) below in
       rw (low-word, high-word, all) (omega (arith, length-map cs (λ c. c .state), length-map cs (λ c. signed-word (c .times))))
 
-  pub sum-end : a + sum-length (getD s a 0) (getD s (a + 1) 0) ≤ length s
+  pub sum-of : {set e : ℕ} → set ≡ getD s a 0 + getD s (a + 1) 0 * W → e ≡ a + length (sum-words p cs)
+      → SumOf p s (record { marks = set; from = a + 2; to = e }) cs
   unfolding sum-words set-words
-  sum-end = omega (arith, sum-long, words-within (h .there) (omega arith), h .there .ends)
-
-  pub sum-of : {set long : ℕ} → set ≡ getD s a 0 + getD s (a + 1) 0 * W → long ≡ sum-length (getD s a 0) (getD s (a + 1) 0)
-      → SumOf p s a cs (record { marks = set; from = a + 2; to = a + long })
-  unfolding sum-words set-words
-  sum-of {set} {long} es el =
+  sum-of {e = e} es ee =
       let body = span-right (sum-set % W ∷ sum-set / W ∷ []) (times-words cs) (h .there) in
-      let last : a + long ≡ h .end = omega (arith, sum-long, h .there .ends) in
+      let last : e ≡ h .end = ee ∙ sym (h .there .ends) in
       record {
+        ranges = h .ranges;
         marks = omega (arith, low-word, high-word);
-        words = ap (λ (e : ℕ). slice (a + 2) e s) last ∙ words-from body (omega (arith, sum-end, sum-long));
-        ends = last ∙ h .there .ends;
+        words = rw last (words-from body (omega (arith, body .ends, words-within (h .there) (omega arith))));
       }
 
 -- ---- the words of a lifted sum
 
-bit-mark : {p a : ℕ} {s : List ℕ} {cs : List Coefficient} {x : SumHead} → SumOf p s a cs x
+bit-mark : {p : ℕ} {s : List ℕ} {cs : List Coefficient} {x : SumHead} → SumOf p s x cs
     → (q : ℕ) → q < p → bit (x .marks) q ≡ has (marks cs) q
 bit-mark {p} {cs = cs} h q l = ap (λ (n : ℕ). bit n q) (h .marks) ∙ bit-mask p (has (marks cs)) q l
 
 -- a pair is marked in a lifted sum if its half is marked
-module _ (side : Side) (n : Sizes) (cs : List Coefficient) {x : ℕ} (l : x < of-pairs n) where
-  abbrev lifted-mark : ℕ
-  lifted-mark = half side (n .of-T) x
+has-lifted : (side : Side) (n : Sizes) (cs : List Coefficient) → Ascending (marks cs) → {x : ℕ} → x < of-pairs n
+    → has (marks cs) (half side (n .of-T) x) ≡ has (marks (lift-sum side n cs)) x
+has-lifted side n cs asc {x} l = rw (lifted-marks side n cs asc) (go (told (test x)))
+  where
+    test : ℕ → Bool
+    test y = has (marks cs) (half side (n .of-T) y)
 
-  abbrev one-time : ℕ → Coefficient → List Coefficient
-  one-time y d = only (eqb (d .state) (half side (n .of-T) y)) (record { state = y; times = d .times })
+    go : Told (test x) → test x ≡ has (flatMap (λ y. only (test y) y) (numbers (of-pairs n))) x
+    go (yea t) = t ∙ sym (∈-has (∈-filter test (of-pairs n) x .1 (l, t)))
+    go (nay t) = t ∙ sym (has-no (λ m. false≢true (sym t ∙ ∈-filter test (of-pairs n) x .0 m .1)))
 
-  marked-there : x ∈ marks (lift-sum side n cs) → lifted-mark ∈ marks cs
-  unfolding lift-sum coefficient-of
-  marked-there m =
-      let (c, k, e) = map-∈ (λ (c : Coefficient). c .state) (lift-sum side n cs) m in
-      let (y, _, j) = each-∈ (λ y. coefficient-of cs (half side (n .of-T) y) y) (numbers (of-pairs n)) k in
-      let (d, i, t) = each-∈ (one-time y) cs j in
-      let is : x ≡ y = e ∙ ap (λ (c : Coefficient). c .state) (only-eq (eqb (d .state) (half side (n .of-T) y)) _ t) in
-      let mark : d .state ≡ lifted-mark
-      = same (d .state) _ (only-test (eqb (d .state) (half side (n .of-T) y)) _ t) ∙ ap (half side (n .of-T)) (sym is) in
-      subst (λ (q : ℕ). q ∈ marks cs) mark (∈-map (λ (c : Coefficient). c .state) i)
+-- The words of the coefficients: each pair has that of its half. The pairs of a state of S are a row, one for each state of T: a word of S
+-- is there that often in a row, and all words of T once in each row.
+abbrev pub lifted-times : Side → Sizes → List ℕ → List ℕ
+lifted-times S n ws = repeated-each (n .of-T) ws
+lifted-times T n ws = repeated (n .of-S) ws
 
-  marked-back : lifted-mark ∈ marks cs → x ∈ marks (lift-sum side n cs)
-  unfolding lift-sum coefficient-of
-  marked-back m =
-      let (d, i, e) = map-∈ (λ (c : Coefficient). c .state) cs m in
-      let t = ∈-each (one-time x) i (∈-only (eqb (d .state) lifted-mark) (record { state = x; times = d .times }) (eqb-yes (sym e))) in
-      ∈-map (λ (c : Coefficient). c .state) (∈-each (λ y. coefficient-of cs (half side (n .of-T) y) y) (∈-numbers (of-pairs n) l) t)
-
-  has-lifted : has (marks cs) lifted-mark ≡ has (marks (lift-sum side n cs)) x
-  has-lifted = go (told (has (marks cs) lifted-mark))
-    where
-      go : Told (has (marks cs) lifted-mark) → has (marks cs) lifted-mark ≡ has (marks (lift-sum side n cs)) x
-      go (yea t) = t ∙ sym (∈-has (marked-back (has-∈ (marks cs) t)))
-      go (nay t) = t ∙ sym (has-no (λ m. false≢true (sym t ∙ ∈-has (marked-there m))))
-
--- the words of the coefficients: each pair has that of its half
 module _ (n : Sizes) (some : 1 ≤ n .of-T) (cs : List Coefficient) where
   by-state : (side : Side) → SetBelow (of-side side n) (marks cs)
       → lifted-times side n (times-words cs) ≡ flatMap (λ x. times-at cs (half side (n .of-T) x)) (numbers (of-pairs n))
@@ -262,36 +242,30 @@ module _ (n : Sizes) (some : 1 ≤ n .of-T) (cs : List Coefficient) where
       ∙ sym (map-each (λ (c : Coefficient). signed-word (c .times)) (λ x. coefficient-of cs (half side (n .of-T) x) x)
       (numbers (of-pairs n)))
 
-module _ (side : Side) (n : Sizes) (some : 1 ≤ n .of-T) {a : ℕ} {s : List ℕ} {cs : List Coefficient} {x : SumHead}
-    (h : SumOf (of-side side n) s a cs x) (ranges : SumInRange (of-side side n) cs) where
-  pub lifted-sum-words : {set : ℕ} → set ≡ mask (of-pairs n) (λ y. bit (x .marks) (half side (n .of-T) y))
-      → (set % W ∷ set / W ∷ []) ++ lifted-times side n (times-in s x) ≡ sum-words (of-pairs n) (lift-sum side n cs)
-  unfolding sum-words set-words
-  lifted-sum-words {set} e =
-      let marked : (y : ℕ) → y < of-pairs n → bit (x .marks) (half side (n .of-T) y) ≡ has (marks (lift-sum side n cs)) y
-      = λ y l. bit-mark h (half side (n .of-T) y) (half-below side n some l) ∙ has-lifted side n cs l in
-      let same-marks : set ≡ mask (of-pairs n) (has (marks (lift-sum side n cs))) = e ∙ mask-like (of-pairs n) _ _ marked in
-      rw (same-marks, h .words, times-lifted n some cs side (ranges .marked))
-
--- ---- the marks of a lifted sum: the pairs of which one half is in a set and the other any number below 64
+-- the marks: the pairs of which one half is in a set and the other any number below 64
+abbrev lifted-set : Side → Sizes → ℕ → ℕ
+lifted-set S n m = pair-set (n .of-S) (n .of-T) m (2 ^ 64 - 1)
+lifted-set T n m = pair-set (n .of-S) (n .of-T) (2 ^ 64 - 1) m
 
 bit-all : (i : ℕ) → i < 64 → bit (2 ^ 64 - 1) i ≡ true
 unfolding mask
 bit-all i h = bit-mask 64 (λ _. true) i h
 
-module _ {n : Sizes} (few : FewPairs n) (m : ℕ) where
-  abbrev lifted-marks : Side → ℕ
-  lifted-marks side = mask (of-pairs n) (λ x. bit m (half side (n .of-T) x))
+set-lifted : {n : Sizes} → FewPairs n → (m : ℕ) (side : Side) → lifted-set side n m ≡ mask (of-pairs n) (λ x. bit m (half side (n .of-T) x))
+set-lifted {n} few m S =
+    few-pairs (n .of-S) (n .of-T) m (2 ^ 64 - 1) (few .few) ∙ mask-like (of-pairs n) _ _ (λ x l.
+    rw (bit-all (x % n .of-T) (omega (arith, half-below T n l, few-T few))) (and-true (bit m (x / n .of-T))))
+set-lifted {n} few m T =
+    few-pairs (n .of-S) (n .of-T) (2 ^ 64 - 1) m (few .few) ∙ mask-like (of-pairs n) _ _ (λ x l.
+    rw (bit-all (x / n .of-T) (omega (arith, half-below S n l, few-S few))))
 
-  pub marks-of-S : {r : ℕ} → r ≡ pair-set (n .of-S) (n .of-T) m (2 ^ 64 - 1) → r ≡ lifted-marks S
-  marks-of-S e =
-      e ∙ few-pairs (n .of-S) (n .of-T) m (2 ^ 64 - 1) (few .few)
-      ∙ mask-like (of-pairs n) _ _ (λ x l.
-      ap (λ (b : Bool). bit m (x / n .of-T) && b) (bit-all (x % n .of-T) (omega (arith, half-below T n (few .some-T) l, few-T few)))
-      ∙ and-true (bit m (x / n .of-T)))
-
-  pub marks-of-T : {r : ℕ} → r ≡ pair-set (n .of-S) (n .of-T) (2 ^ 64 - 1) m → r ≡ lifted-marks T
-  marks-of-T e =
-      e ∙ few-pairs (n .of-S) (n .of-T) (2 ^ 64 - 1) m (few .few)
-      ∙ mask-like (of-pairs n) _ _ (λ x l.
-      ap (λ (b : Bool). b && bit m (x % n .of-T)) (bit-all (x / n .of-T) (omega (arith, half-below S n (few .some-T) l, few-S few))))
+pub lifted-sum-words : (side : Side) {n : Sizes} → FewPairs n → {s : List ℕ} {x : SumHead} {cs : List Coefficient}
+    → SumOf (of-side side n) s x cs → {set : ℕ} → set ≡ lifted-set side n (x .marks)
+    → (set % W ∷ set / W ∷ []) ++ lifted-times side n (times-in s x) ≡ sum-words (of-pairs n) (lift-sum side n cs)
+unfolding sum-words set-words
+lifted-sum-words side {n} few {x = x} {cs} h {set} e =
+    let marked : (y : ℕ) → y < of-pairs n → bit (x .marks) (half side (n .of-T) y) ≡ has (marks (lift-sum side n cs)) y
+    = λ y l. bit-mark h (half side (n .of-T) y) (half-below side n l) ∙ has-lifted side n cs (h .ranges .marked .ascends) l in
+    let all : set ≡ mask (of-pairs n) (has (marks (lift-sum side n cs)))
+    = e ∙ set-lifted few (x .marks) side ∙ mask-like (of-pairs n) _ _ marked in
+    rw (all, h .words, times-lifted n (few .some-T) cs side (h .ranges .marked))

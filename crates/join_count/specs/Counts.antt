@@ -5,9 +5,10 @@ use Prim.Native.Nat.{ℕ, _+_, _≤_}
 use lib.ListN.{length}
 use lib.Seq.{slice}
 use Rattle.model.specs.Lists.{has}
-use Rattle.model.specs.Sheet.{Coefficient, Step, mask, marks, signed-word, sum-words, step-words, count-words}
+use Rattle.model.specs.Sheet.{Coefficient, Step, mask, marks, signed-word, sum-words, step-words, count-words, SumInRange}
 use Rattle.model.specs.Compose.{S, T, of-side, of-pairs, lift-sum, lift-step}
-use Rattle.model.specs.Spans.{SumAt, StepAt, CountAt}
+use Rattle.model.specs.Spans.{StepAt, CountAt}
+use Rattle.parts.specs.Lengths.{step-length}
 use Rattle.join_pairs.specs.declared.Side.{Side}
 use Rattle.join_pairs.specs.declared.Sizes.{Sizes}
 use Rattle.join_pairs.specs.declared.Places.{Places}
@@ -37,30 +38,17 @@ JoinsCounts n u v at Written =
 abbrev pub times-in : List ℕ → SumHead → List ℕ
 times-in s h = slice (h .from) (h .to) s
 
--- what the code finds of a sum over p states at a
-pub record SumOf (p : ℕ) (s : List ℕ) (a : ℕ) (cs : List Coefficient) (h : SumHead) : Type 0 where
+-- the code has found a sum over p states
+pub record SumOf (p : ℕ) (s : List ℕ) (h : SumHead) (cs : List Coefficient) : Type 0 where
+  pub ranges : SumInRange p cs
   pub marks : h .marks ≡ mask p (has (marks cs))
   pub words : times-in s h ≡ map (λ c. signed-word (c .times)) cs
-  pub ends : h .to ≡ a + length (sum-words p cs)
-
--- over at most 64 states
-abbrev pub SomeSum : List ℕ → ℕ → Type 0
-SomeSum s a = (p : ℕ) × (cs : List Coefficient) × (p ≤ 64) × SumAt p s a cs
-
-abbrev pub FindsSum : List ℕ → ℕ → SumHead → Type 0
-FindsSum s a h = (p : ℕ) (cs : List Coefficient) → p ≤ 64 → SumAt p s a cs → SumOf p s a cs h
-
--- a sum that the code found
-pub record FoundSum (side : Side) (n : Sizes) (s : List ℕ) (h : SumHead) : Type 0 where
-  pub at : ℕ
-  pub coefficients : List Coefficient
-  pub is : SumAt (of-side (side-of side) (sizes-of n)) s at coefficients
-  pub found : SumOf (of-side (side-of side) (sizes-of n)) s at coefficients h
 
 -- what is written of it
 abbrev pub LiftsSum : Side → Sizes → List ℕ → SumHead → (List ℕ → Type 0) → Type 0
 LiftsSum side n s h Written =
-    (v : FoundSum side n s h) → Written (sum-words (of-pairs (sizes-of n)) (lift-sum (side-of side) (sizes-of n) (v .coefficients)))
+    (cs : List Coefficient) → SumOf (of-side (side-of side) (sizes-of n)) s h cs
+    → Written (sum-words (of-pairs (sizes-of n)) (lift-sum (side-of side) (sizes-of n) cs))
 
 -- ---- steps
 
@@ -75,9 +63,11 @@ pub record SmallLift (l : Lift) : Type 0 where
   pub few : FewPairs (sizes-of (l .sizes))
   pub shift : l .shift ≤ 32
 
--- a step over the sheet's states
-abbrev pub SomeStep : Lift → List ℕ → ℕ → Type 0
-SomeStep l s a = (x : Step) × StepAt (states-of l) s a x
+-- a step over the sheet's states is at a and ends before e
+pub record SomeStep (l : Lift) (s : List ℕ) (a e : ℕ) : Type 0 where
+  pub step : Step
+  pub here : StepAt (states-of l) s a step
+  pub ends : e ≡ a + step-length s a
 
 -- what is written of a step, and of the steps of a count part
 abbrev pub lifts : Lift → Step → Step

@@ -1,21 +1,17 @@
 // Count parts of joint rules: one alone lifted to pairs of states, and two joined.
-ghost use mathlib.Core.Path.{_≡_};
 ghost use Prim.Native.Nat.{_≤_, _<_};
 ghost use lib.ListN.{getD};
-ghost use Rattle.model.specs.Sheet.{mask, bit};
-ghost use Rattle.model.specs.Compose.{half, of-side, of-pairs};
+ghost use Rattle.model.specs.Compose.{of-side};
 ghost use Rattle.page.specs.Page.{Writes};
 ghost use Rattle.join_pairs.specs.Sides.{side-of, sizes-of, FewPairs};
-ghost use Rattle.join_count.specs.Sums.{lifted-times};
 ghost use Rattle.join_count.specs.Counts.{SomeCount, LiftsCount, JoinsCounts};
-ghost use Rattle.join_count.specs.Counts.{times-in, SomeSum, FindsSum, FoundSum, LiftsSum};
-ghost use Rattle.join_count.specs.Counts.{SmallLift, states-of, SomeStep, LiftsStep, LiftsSteps, LiftsBoth};
+ghost use Rattle.join_count.specs.Counts.{LiftsSum, SmallLift, states-of, SomeStep, LiftsStep, LiftsSteps, LiftsBoth};
 use join_pairs::Places;
 use join_pairs::Side;
 use join_pairs::Sizes;
 use layout::AND;
-use layout::NOT;
 use layout::REMAINDER;
+use layout::wide;
 use page::ALL;
 use page::copy;
 use page::pair_set;
@@ -34,49 +30,9 @@ struct SumHead {
     to: usize,
 }
 
-// The sum at `a`.
-fn sum_head(words: &[u32], a: usize) -> SumHead
-    requires { ⌜ SomeSum (now words) a ⌝ }
-    ensures { λ r. ⌜ FindsSum (now (words .entry)) a r ⌝ }
-{
-    SumHead {
-        marks: parts::set_at(words, a),
-        from: a + MARKS,
-        to: a + parts::sum_length(words, a),
-    }
-}
-
-// The pairs whose half is marked: with the other half any state.
-fn lift_marks(marks: u64, side: Side, sizes: Sizes) -> u64
-    requires { ⌜ FewPairs (sizes-of sizes) ⌝ }
-    ensures { λ r. ⌜ r ≡ mask (of-pairs (sizes-of sizes)) (λ x. bit marks (half (side-of side) (sizes .t) x)) ⌝ }
-{
-    match side {
-        Side::S => pair_set(sizes.s, sizes.t, marks, ALL),
-        Side::T => pair_set(sizes.s, sizes.t, ALL, marks),
-    }
-}
-
-// Writes the coefficient of its half for each pair whose half is marked, in ascending order. The pairs of a state of S are a
-// row, one for each state of T: a coefficient of S is written that often in a row, and all those of T in each row.
-fn lift_times(
-    words: &[u32],
-    sum: SumHead,
-    side: Side,
-    sizes: Sizes,
-    out: &mut [u32],
-    at: usize,
-) -> usize
-    ensures { λ r. ⌜ Writes (now (out .entry)) at (lifted-times (side-of side) (sizes-of sizes) (times-in (now (words .entry)) sum))
-        (now (out .exit)) r ⌝ }
-{
-    match side {
-        Side::S => repeat_each(words, sum.from, sum.to, sizes.t, out, at),
-        Side::T => repeat_all(words, sum.from, sum.to, sizes.s, out, at),
-    }
-}
-
-// Writes a sum, lifted.
+// Writes a sum, lifted: the pairs whose half is marked, the other half any state, then for each of these pairs, in ascending order,
+// the coefficient of its half. The pairs of a state of S are a row, one for each state of T: a coefficient of S is written that
+// often in a row, and all those of T in each row.
 fn lift_sum(
     words: &[u32],
     sum: SumHead,
@@ -85,11 +41,19 @@ fn lift_sum(
     out: &mut [u32],
     at: usize,
 ) -> usize
-    requires { ⌜ FewPairs (sizes-of sizes) × FoundSum side sizes (now words) sum ⌝ }
+    requires { ⌜ FewPairs (sizes-of sizes) ⌝ }
     ensures { λ r. ⌜ LiftsSum side sizes (now (words .entry)) sum (λ ws. Writes (now (out .entry)) at ws (now (out .exit)) r) ⌝ }
 {
-    let marked = put_set(out, at, lift_marks(sum.marks, side, sizes));
-    lift_times(words, sum, side, sizes, out, marked)
+    match side {
+        Side::S => {
+            let marked = put_set(out, at, pair_set(sizes.s, sizes.t, sum.marks, ALL));
+            repeat_each(words, sum.from, sum.to, sizes.t, out, marked)
+        }
+        Side::T => {
+            let marked = put_set(out, at, pair_set(sizes.s, sizes.t, ALL, sum.marks));
+            repeat_all(words, sum.from, sum.to, sizes.s, out, marked)
+        }
+    }
 }
 
 // How steps are lifted: of which sheet they are, how many states both have, and by how much step numbers are shifted.
@@ -99,41 +63,51 @@ struct Lift {
     shift: u32,
 }
 
-// Writes the step of a sum at `a`, lifted.
-fn lift_sum_step(words: &[u32], a: usize, lift: Lift, out: &mut [u32], at: usize) -> usize
-    requires { ⌜ SmallLift lift × SomeStep lift (now words) a × (getD (now words) a 0 ≤ 2) ⌝ }
+// Writes the step of a sum from `a` to `end`, lifted: after the sum it has as many words more as the number of its kind.
+fn lift_sum_step(
+    words: &[u32],
+    a: usize,
+    end: usize,
+    lift: Lift,
+    out: &mut [u32],
+    at: usize,
+) -> usize
+    requires { ⌜ SmallLift lift × SomeStep lift (now words) a end × (getD (now words) a 0 ≤ 2) ⌝ }
     ensures { λ r. ⌜ LiftsStep lift (now (words .entry)) a (λ ws. Writes (now (out .entry)) at ws (now (out .exit)) r) ⌝ }
 {
-    let named = put(out, at, parts::at(words, a));
-    let sum = sum_head(words, a + 1);
+    let kind = parts::at(words, a);
+    let from = a + 1;
+    let sum = SumHead {
+        marks: parts::set_at(words, from),
+        from: from + MARKS,
+        to: end - wide(kind),
+    };
+    let named = put(out, at, kind);
     let side = lift.side;
     let summed = lift_sum(words, sum, side, lift.sizes, out, named);
-    copy(words, sum.to, a + parts::step_length(words, a), out, summed)
+    copy(words, sum.to, end, out, summed)
 }
 
-// Writes the step at `a` that refers to one or two steps, their numbers shifted.
-fn shift_step(words: &[u32], a: usize, lift: Lift, out: &mut [u32], at: usize) -> usize
-    requires { ⌜ SmallLift lift × SomeStep lift (now words) a × (2 < getD (now words) a 0) ⌝ }
+// Writes the step from `a` to `end` that refers to one or two steps, their numbers shifted: the first and the last, which may be one.
+fn shift_step(words: &[u32], a: usize, end: usize, lift: Lift, out: &mut [u32], at: usize) -> usize
+    requires { ⌜ SmallLift lift × SomeStep lift (now words) a end × (2 < getD (now words) a 0) ⌝ }
     ensures { λ r. ⌜ LiftsStep lift (now (words .entry)) a (λ ws. Writes (now (out .entry)) at ws (now (out .exit)) r) ⌝ }
 {
     let kind = parts::at(words, a);
     let first = lift.shift + parts::field(words, a, 1);
-    if kind == NOT {
-        return copy(&[kind, first], 0, 2, out, at);
-    }
-    let second = lift.shift + parts::field(words, a, 2);
-    copy(&[kind, first, second], 0, 3, out, at)
+    let last = lift.shift + parts::at(words, end - 1);
+    copy(&[kind, first, last], 0, end - a, out, at)
 }
 
-// Writes the step at `a`, lifted.
-fn lift_step(words: &[u32], a: usize, lift: Lift, out: &mut [u32], at: usize) -> usize
-    requires { ⌜ SmallLift lift × SomeStep lift (now words) a ⌝ }
+// Writes the step from `a` to `end`, lifted.
+fn lift_step(words: &[u32], a: usize, end: usize, lift: Lift, out: &mut [u32], at: usize) -> usize
+    requires { ⌜ SmallLift lift × SomeStep lift (now words) a end ⌝ }
     ensures { λ r. ⌜ LiftsStep lift (now (words .entry)) a (λ ws. Writes (now (out .entry)) at ws (now (out .exit)) r) ⌝ }
 {
     if parts::at(words, a) <= REMAINDER {
-        return lift_sum_step(words, a, lift, out, at);
+        return lift_sum_step(words, a, end, lift, out, at);
     }
-    shift_step(words, a, lift, out, at)
+    shift_step(words, a, end, lift, out, at)
 }
 
 // Writes the steps of the count part at `c`, lifted.
@@ -146,8 +120,9 @@ fn lift_steps(words: &[u32], c: usize, lift: Lift, out: &mut [u32], at: usize) -
     let mut i = c + 1;
     let mut k = 0;
     while k < n {
-        next = lift_step(words, i, lift, out, next);
-        i += parts::step_length(words, i);
+        let end = i + parts::step_length(words, i);
+        next = lift_step(words, i, end, lift, out, next);
+        i = end;
         k += 1;
     }
     next

@@ -1,9 +1,8 @@
 -- Bounds on products, and on numbers of states with at most 64 pairs.
-use Prim.Native.Nat.{ℕ, _*_, _≤_, _<_}
-use native.Mathlib.Nat.{le-trans, mul-le-mul-left, mul-le-mul-right, mod-lt, div-lt-iff-lt-mul}
+use Prim.Native.Nat.{ℕ, _*_, _≤_}
+use native.Mathlib.Nat.{le-trans, mul-le-mul-left, mul-le-mul-right}
 use native.Mathlib.Omega.{arith}
-use Rattle.model.specs.Compose.{Side, S, T, half, Sizes, of-other}
-use Rattle.model.specs.Compose.{of-side, of-pairs}
+use Rattle.model.specs.Compose.{Side, S, T, Sizes, of-side, of-other}
 use Rattle.join_pairs.specs.Sides.{FewPairs}
 
 pub mul-le : (a b : ℕ) {x y : ℕ} → a ≤ x → b ≤ y → a * b ≤ x * y
@@ -23,8 +22,3 @@ module _ {n : Sizes} (h : FewPairs n) where
   pub few-other : (side : Side) → of-other side n ≤ 64
   few-other S = few-T
   few-other T = few-S
-
--- halves of a pair of states are states
-pub half-below : (side : Side) (n : Sizes) {x : ℕ} → 1 ≤ n .of-T → x < of-pairs n → half side (n .of-T) x < of-side side n
-half-below S n h l = div-lt-iff-lt-mul h .1 l
-half-below T n {x} h l = mod-lt x h

@@ -105,7 +105,7 @@ coefficient-marks (c ∷ cs) q x (a, al) =
 
 module _ (side : Side) (n : Sizes) where
   -- the marks of a lifted sum: the pairs whose half is marked
-  lifted-marks : (cs : List Coefficient) → Ascending (marks cs)
+  pub lifted-marks : (cs : List Coefficient) → Ascending (marks cs)
       → marks (lift-sum side n cs) ≡ flatMap (λ x. only (has (marks cs) (half side (n .of-T) x)) x) (numbers (of-pairs n))
   unfolding lift-sum
   lifted-marks cs a =

@@ -51,7 +51,7 @@ some-of-T : (a b : ℕ) {x : ℕ} → x < a * b → 0 < b
 some-of-T a zero h = absurd (omega arith)
 some-of-T a (suc b) h = omega arith
 
-half-below : (side : Side) (n : Sizes) {x : ℕ} → x < of-pairs n → half side (n .of-T) x < of-side side n
+pub half-below : (side : Side) (n : Sizes) {x : ℕ} → x < of-pairs n → half side (n .of-T) x < of-side side n
 half-below S n h = div-lt-iff-lt-mul (some-of-T (n .of-S) (n .of-T) h) .1 h
 half-below T n {x} h = mod-lt x (some-of-T (n .of-S) (n .of-T) h)
 

@@ -21,4 +21,4 @@ count-at-spec =
     (λ c. order-end (c .before .before .before .before .pre) (c .before .before .with-order .ensures) (c .before .if1 .taken)
     (c .order-length .ensures) .0)
     (λ c. omega (arith, spot-there (c .before .before .before .pre)))
-    (λ c. no-order-end (c .before .before .before .pre) (c .before .with-order .ensures) (c .if1 .left)))
+    (λ c. search (no-order-end, needs)))

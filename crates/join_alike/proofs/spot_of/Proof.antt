@@ -14,5 +14,4 @@ spot-of-spec =
     (λ c κs. search needs)
     (λ c κs. search needs)
     (λ c κs. search needs)
-    (λ c. spot-made _ _ (c .before .before .before .before .field .ensures) (c .before .before .field2 .ensures)
-    (c .before .before .before .entry-of .ensures .0) (c .before .entry-of2 .ensures .0) (c .one-less .ensures)))
+    (λ c. search (spot-made, needs)))

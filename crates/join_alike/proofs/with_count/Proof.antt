@@ -10,4 +10,4 @@ with-count-spec =
     (tie.spec
     (λ c κs. search needs)
     (λ c κs. search needs)
-    (λ c. with-count (c .before .before .before .pre) (c .before .at .ensures) (c .has-count .ensures)))
+    (λ c. search (with-count, needs)))

@@ -10,4 +10,4 @@ with-order-spec =
     (tie.spec
     (λ c κs. search needs)
     (λ c κs. search needs)
-    (λ c. with-order (c .before .before .before .pre) (c .before .at .ensures) (c .has-order .ensures)))
+    (λ c. search (with-order, needs)))

@@ -1,16 +1,15 @@
 -- `lift_steps` meets its contract.
-use mathlib.Core.Path.{refl, sym, ap, _∙_}
+use mathlib.Core.Path.{refl, ap, _∙_}
 use mathlib.Core.List.{List, map, flatMap}
-use Prim.Native.Nat.{ℕ, _+_, _-_, _≤_}
+use Prim.Native.Nat.{ℕ, _+_, _-_}
 use native.Mathlib.Omega.{arith}
+use denote.Ref.{now}
 use Rattle.model.specs.Sheet.{Step, step-words, StepInRange}
 use Rattle.model.specs.Spans.{CountAt}
 use Rattle.model.proofs.PartLaws.{PartsLeft, next-part, none-left, each-next, each-none}
-use Rattle.join_pairs.specs.Sides.{side-of}
-use Rattle.join_pairs.proofs.NumberLaws.{few-side}
 use Rattle.page.proofs.PageLaws.{Left, begun, more, done, kept}
-use Rattle.join_count.specs.Counts.{states-of, pairs-of, lifts}
-use Rattle.join_count.proofs.StepWords.{step-long, step-end}
+use Rattle.join_count.specs.Counts.{states-of, pairs-of, lifts, SomeStep}
+use Rattle.join_count.proofs.StepWords.{ends-here, ends-within}
 use Rattle.join_count.proofs.CountWords.{count-fields}
 use borrow.Author.Needs.{needs}
 use Rattle.join_count.proofs.lift_steps.Statement.{statement}
@@ -27,8 +26,17 @@ Inv-loop words c lift out₀ at n next₀ i₀ k₀ out next i k =
 abbrev μ-loop : tie.MeasureT-loop
 μ-loop words c lift out₀ at n next₀ i₀ k₀ out next i k = n - k
 
-few-states : (c : tie.Start Inv-loop μ-loop) → states-of (c .args .lift) ≤ 64
-few-states c = few-side (c .pre .0 .few) (side-of (c .args .lift .side))
+-- the next of them
+module _ (c : tie.After-step-length Inv-loop μ-loop) where
+  abbrev start : tie.Start Inv-loop μ-loop
+  start = c .before .before .before .before .before .before
+
+  here : let i = c .before .before .loop .i in SomeStep (start .args .lift) (now (start .args .words)) i (i + c .step-length .result)
+  here =
+      let (ss, h) = start .pre .1 in
+      let (rest, left, _) = c .before .before .loop .inv ss h in
+      let v = next-part rest left (c .before .loop-test .taken) in
+      record { step = v .part; here = v .here; ends = ap (λ (n : ℕ). c .before .before .loop .i + n) (c .step-length .ensures) }
 
 pub lift-steps-spec : {M : Type 1} → statement M
 lift-steps-spec =
@@ -41,30 +49,20 @@ lift-steps-spec =
     (λ c. λ ss h.
     let f = count-fields h in
     (ss, record { stand = f .steps; number = omega (arith, f .number) }, begun refl))
-    (λ c κs.
-    let loop = c .before .before in
-    let (small, (ss, h)) = loop .before .before .before .before .pre in
-    let (rest, left, _) = loop .loop .inv ss h in
-    (small, (_, next-part rest left (c .before .loop-test .taken) .here)))
     (λ c κs. search needs)
-    (λ c.
-    let turn = c .before .before .before .before .before in
-    let start = turn .before .before .before .before .before in
-    let (small, (ss, h)) = start .pre in
-    let (rest, left, _) = turn .before .loop .inv ss h in
-    omega (arith, step-end (few-states start) (next-part rest left (turn .loop-test .taken) .here)))
+    (λ c. omega (arith, ends-within (start c .pre .0) (here c)))
+    (λ c κs. (start (c .before) .pre .0, here (c .before)))
     (λ c. search needs)
     (λ c. search needs)
     (λ c.
-    let turn = c .before .before .before .before .before in
-    let start = turn .before .before .before .before .before in
+    let lifted = c .before .before in
+    let read = lifted .before .before in
     λ ss h.
-    let (rest, left, page) = turn .before .loop .inv ss h in
-    let v = next-part rest left (turn .loop-test .taken) in
-    let past = c .step-length .ensures ∙ step-long (few-states start) (v .here) in
-    let lifted = c .before .before .before .lift-step .ensures _ (v .here) in
-    (v .others, v .further (ap (λ (n : ℕ). turn .before .loop .i + n) past), more page (each-next _ (ap (map _) (v .split))) lifted))
-    (λ c. let (small, (ss, h)) = c .before .before .before .before .before .pre in kept (c .before .loop .inv ss h .2))
+    let (rest, left, page) = read .before .before .loop .inv ss h in
+    let v = next-part rest left (read .before .loop-test .taken) in
+    let past = ends-here (start read .pre .0) (here read) _ (v .here) ∙ v .here .there .ends in
+    (v .others, v .further past, more page (each-next _ (ap (map _) (v .split))) (lifted .lift-step .ensures _ (v .here))))
+    (λ c. let (ss, h) = c .before .before .before .before .before .pre .1 in kept (c .before .loop .inv ss h .2))
     (λ c. λ ss h.
     let (rest, left, page) = c .before .loop .inv ss h in
     done page (each-none _ (ap (map _) (none-left rest left (c .loop-test .left))))))

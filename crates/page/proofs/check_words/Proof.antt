@@ -11,5 +11,5 @@ check-words-spec =
     tie.close
     (tie.spec
     (λ c. words-over _ _ (c .if1 .taken))
-    (λ c. words-short _ _ (c .before .if1 .left) (c .if2 .taken))
-    (λ c. words-within _ _ (c .before .if1 .left) (c .if2 .left)))
+    (λ c. search (words-short, needs))
+    (λ c. search (words-within, needs)))

@@ -11,4 +11,4 @@ complement-spec =
     (λ c κs. search needs)
     (λ c κs. search needs)
     (λ c. some-of-all _ _ (c .before .all-below .ensures) (c .row .ensures))
-    (λ c. complement-is _ _ (c .before .all-below .ensures) (c .row .ensures)))
+    (λ c. search (complement-is, needs)))

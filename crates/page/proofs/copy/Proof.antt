@@ -21,7 +21,7 @@ copy-spec =
     Inv-loop
     μ-loop
     (λ c κs. search needs)
-    (λ c. let a = c .before .before .before .args in begun (slice-cut (now (a .words)) (a .from) (a .to) (c .end-within .ensures)))
+    (λ c. search (begun, slice-cut, needs))
     (λ c. search needs)
     (λ c. search needs)
     (λ c κs. search needs)
@@ -31,5 +31,5 @@ copy-spec =
     let put = c .before .before in
     let turn = put .before .before .before in
     more (turn .before .loop .inv) (slice-next _ _ _ (turn .loop-test .taken) (omega arith)) (put .put .ensures))
-    (λ c. kept (c .before .loop .inv))
-    (λ c. done (c .before .loop .inv) (slice-none _ _ _ (c .loop-test .left))))
+    (λ c. search (kept, needs))
+    (λ c. search (done, slice-none, needs)))

@@ -38,12 +38,8 @@ pair-set-spec =
     (λ c. record { fits = omega (arith, room c) })
     (λ c. record { fits = omega (arith, room c) })
     (λ c. omega (arith, room c))
-    (λ c.
-    let turn = c .before .before in
-    record { fits = with-row-fits (few c) (turn .loop-test .taken) (turn .before .loop .inv) (c .before .has .ensures) (c .row .ensures) })
+    (λ c. search (with-row-fits, few, needs))
     (λ c. search needs)
     (λ c. search needs)
-    (λ c.
-    let turn = c .before .before in
-    one-row-more (few c) (turn .loop-test .taken) (turn .before .loop .inv) (c .before .has .ensures) (c .row .ensures))
+    (λ c. search (one-row-more, few, needs))
     (λ c. all-rows (few-rows _ _ (omega arith) (c .before .before .if2 .left)) (c .before .loop .inv) (c .loop-test .left)))

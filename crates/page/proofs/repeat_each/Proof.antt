@@ -37,5 +37,5 @@ repeat-each-spec =
     let word = c .before .before in
     let turn = word .before .before .before in
     more (turn .before .loop .inv) (each-next _ (slice-next _ _ _ (turn .loop-test .taken) (omega arith))) (word .repeat-word .ensures))
-    (λ c. kept (c .before .loop .inv))
-    (λ c. done (c .before .loop .inv) (each-none _ (slice-none _ _ _ (c .loop-test .left)))))
+    (λ c. search (kept, needs))
+    (λ c. search (done, each-none, slice-none, needs)))

@@ -10,5 +10,5 @@ row-spec =
     (tie.spec
     (λ c κs. search needs)
     (λ c. search needs)
-    (λ c. record { fits = row-fits _ (c .all-below .ensures) (c .before .args .flag) })
-    (λ c. row-is _ (c .all-below .ensures) (c .before .args .flag) (c .before .args .t)))
+    (λ c. search (row-fits, needs))
+    (λ c. search (row-is, needs)))
