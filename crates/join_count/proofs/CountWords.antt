@@ -1,20 +1,16 @@
 -- The words of a count part, and of joint ones.
 use mathlib.Core.Path.{_≡_, sym, ap, _∙_, subst}
-use mathlib.Core.List.{List, [], _∷_, _++_, map, flatMap, append-assoc, List·Memᴰ·head, List·Memᴰ·tail, List·Memᴰ·not-nil}
+use mathlib.Core.List.{List, [], _∷_, _++_, map, flatMap, List·Memᴰ·head, List·Memᴰ·tail, List·Memᴰ·not-nil}
 use Prim.Native.Nat.{ℕ, suc, _+_, _-_, _≤_, _<_}
 use native.Mathlib.Omega.{arith}
 use lib.ListN.{length, getD, length-append, length-map}
 use Rattle.model.specs.Lists.{_∈_}
 use Rattle.model.specs.Sheet.{Step, at-most, remainder, not-step, and-step, or-step, step-words, count-words, StepInRange, StepsInRange}
-use Rattle.model.specs.Compose.{S, T, lift-step}
+use Rattle.model.specs.Compose.{S, T, Sizes, of-pairs, lift-step}
 use Rattle.model.proofs.ListLaws.{each-append}
-use Rattle.model.specs.Compose.{of-pairs}
 use Rattle.model.proofs.Spans.{word-there, word-here, word-next}
 use Rattle.model.specs.Spans.{StepsAt, CountAt}
-use Rattle.join_pairs.specs.declared.Sizes.{Sizes}
-use Rattle.join_pairs.specs.Sides.{sizes-of}
 use Rattle.join_count.specs.Sums.{joint-steps}
-use Rattle.join_count.specs.Counts.{both-lifted}
 
 -- steps refer to steps below 32, as there are no more
 in-32 : (p i : ℕ) (x : Step) → i ≤ 32 → StepInRange p i x → StepInRange p 32 x
@@ -58,12 +54,11 @@ pub lifted-count-words : (p : ℕ) (f : Step → Step) (ss : List Step) {n : ℕ
 unfolding count-words
 lifted-count-words p f ss e = rw (length-map ss f, e)
 
-pub joint-count-words : (n : Sizes) (ss ts : List Step) {k l : ℕ} → length ss ≡ k → length ts ≡ l
-    → ((k + l + 1) ∷ []) ++ (both-lifted n ss ts ++ (4 ∷ (k - 1) ∷ (k + (l - 1)) ∷ []))
-    ≡ count-words (of-pairs (sizes-of n)) (joint-steps (sizes-of n) ss ts)
+pub joint-count-words : (n : Sizes) (ss ts : List Step) {k l : ℕ} → length ss ≡ k → length ts ≡ l → let words = step-words (of-pairs n) in
+    ((k + l + 1) ∷ []) ++ (flatMap words (map (lift-step S n 0) ss)
+    ++ (flatMap words (map (lift-step T n k) ts) ++ (4 ∷ (k - 1) ∷ (k + (l - 1)) ∷ []))) ≡ count-words (of-pairs n) (joint-steps n ss ts)
 unfolding count-words flatMap step-words
-joint-count-words m ss ts {k} {l} ek el =
-    let n = sizes-of m in
+joint-count-words n ss ts {k} {l} ek el =
     let words = step-words (of-pairs n) in
     let lower = map (lift-step S n 0) ss in
     let upper = map (lift-step T n (length ss)) ts in
@@ -71,7 +66,4 @@ joint-count-words m ss ts {k} {l} ek el =
     let number : k + l + 1 ≡ length (lower ++ (upper ++ last))
     = let all = length-append lower (upper ++ last) in
     omega (arith, length-append upper last, length-map ss (lift-step S n 0), length-map ts (lift-step T n (length ss))) in
-    let parts : flatMap words (lower ++ (upper ++ last)) ≡ both-lifted m ss ts ++ flatMap words last
-    = each-append words lower (upper ++ last) ∙ ap (λ (ws : List ℕ). flatMap words lower ++ ws) (each-append words upper last)
-    ∙ sym (append-assoc (flatMap words lower) (flatMap words upper) (flatMap words last)) in
-    rw (number, parts, ek, el)
+    rw (number, each-append words lower (upper ++ last), each-append words upper last, ek, el)

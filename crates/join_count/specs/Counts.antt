@@ -1,12 +1,11 @@
 -- Count parts among the words of the two sheets, and what is written of them.
 use mathlib.Core.Path.{_≡_}
-use mathlib.Core.List.{List, _++_, map, flatMap}
+use mathlib.Core.List.{List, map, flatMap}
 use Prim.Native.Nat.{ℕ, _+_, _≤_}
-use lib.ListN.{length}
 use lib.Seq.{slice}
 use Rattle.model.specs.Lists.{has}
 use Rattle.model.specs.Sheet.{Coefficient, Step, mask, marks, signed-word, sum-words, step-words, count-words, SumInRange}
-use Rattle.model.specs.Compose.{S, T, of-side, of-pairs, lift-sum, lift-step}
+use Rattle.model.specs.Compose.{of-side, of-pairs, lift-sum, lift-step}
 use Rattle.model.specs.Spans.{StepAt, CountAt}
 use Rattle.parts.specs.Lengths.{step-length}
 use Rattle.join_pairs.specs.declared.Side.{Side}
@@ -78,13 +77,3 @@ LiftsStep l s a Written = (x : Step) → StepAt (states-of l) s a x → Written 
 
 abbrev pub LiftsSteps : Lift → List ℕ → ℕ → (List ℕ → Type 0) → Type 0
 LiftsSteps l s c Written = (ss : List Step) → CountAt (states-of l) s c ss → Written (flatMap (step-words (pairs-of l)) (map (lifts l) ss))
-
--- and of the steps of two
-abbrev pub both-lifted : Sizes → (ss ts : List Step) → List ℕ
-both-lifted n ss ts =
-    let words = step-words (of-pairs (sizes-of n)) in
-    flatMap words (map (lift-step S (sizes-of n) 0) ss) ++ flatMap words (map (lift-step T (sizes-of n) (length ss)) ts)
-
-abbrev pub LiftsBoth : Sizes → (u v : List ℕ) → Places → (List ℕ → Type 0) → Type 0
-LiftsBoth n u v at Written =
-    (ss ts : List Step) → CountAt (n .s) u (at .s) ss → CountAt (n .t) v (at .t) ts → Written (both-lifted n ss ts)

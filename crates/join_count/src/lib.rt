@@ -5,7 +5,7 @@ ghost use Rattle.model.specs.Compose.{of-side};
 ghost use Rattle.page.specs.Page.{Writes};
 ghost use Rattle.join_pairs.specs.Sides.{side-of, sizes-of, FewPairs};
 ghost use Rattle.join_count.specs.Counts.{SomeCount, LiftsCount, JoinsCounts};
-ghost use Rattle.join_count.specs.Counts.{LiftsSum, SmallLift, states-of, SomeStep, LiftsStep, LiftsSteps, LiftsBoth};
+ghost use Rattle.join_count.specs.Counts.{LiftsSum, SmallLift, states-of, SomeStep, LiftsStep, LiftsSteps};
 use join_pairs::Places;
 use join_pairs::Side;
 use join_pairs::Sizes;
@@ -149,36 +149,8 @@ pub fn lift_count(
     lift_steps(words, c, lift, out, counted)
 }
 
-// Writes the steps of the count parts at their places in S and T, lifted, those of T shifted past those of S.
-fn lift_both(
-    first: &[u32],
-    second: &[u32],
-    places: Places,
-    sizes: Sizes,
-    out: &mut [u32],
-    at: usize,
-) -> usize
-    requires { ⌜ FewPairs (sizes-of sizes) × SomeCount (sizes .s) (now first) (places .s)
-        × SomeCount (sizes .t) (now second) (places .t) ⌝ }
-    ensures { λ r. ⌜ LiftsBoth sizes (now (first .entry)) (now (second .entry)) places
-        (λ ws. Writes (now (out .entry)) at ws (now (out .exit)) r) ⌝ }
-{
-    let of_s = Lift {
-        side: Side::S,
-        sizes,
-        shift: 0,
-    };
-    let lower = lift_steps(first, places.s, of_s, out, at);
-    let m = parts::at(first, places.s);
-    let of_t = Lift {
-        side: Side::T,
-        sizes,
-        shift: m,
-    };
-    lift_steps(second, places.t, of_t, out, lower)
-}
-
-// Writes the count parts at their places in S and T, lifted, one after the other, closed by an `and` of their last steps.
+// Writes the count parts at their places in S and T, lifted, one after the other, the steps of T shifted past those of S, closed by
+// an `and` of their last steps.
 pub fn join_counts(
     first: &[u32],
     second: &[u32],
@@ -195,6 +167,17 @@ pub fn join_counts(
     let m = parts::at(first, places.s);
     let n = parts::at(second, places.t);
     let counted = put(out, at, m + n + 1);
-    let lifted = lift_both(first, second, places, sizes, out, counted);
-    copy(&[AND, m - 1, m + (n - 1)], 0, 3, out, lifted)
+    let of_s = Lift {
+        side: Side::S,
+        sizes,
+        shift: 0,
+    };
+    let lower = lift_steps(first, places.s, of_s, out, counted);
+    let of_t = Lift {
+        side: Side::T,
+        sizes,
+        shift: m,
+    };
+    let upper = lift_steps(second, places.t, of_t, out, lower);
+    copy(&[AND, m - 1, m + (n - 1)], 0, 3, out, upper)
 }

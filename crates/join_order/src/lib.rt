@@ -18,9 +18,10 @@ use join_pairs::Sizes;
 use join_pairs::beside;
 use join_pairs::of_other;
 use join_pairs::pair;
+use page::WORD;
+use page::copy;
 use page::pair_set;
 use page::put;
-use page::put_set;
 
 // The fields of an arc word are a byte each: from the top the position it leaves, the state it reads, the position it enters.
 const BYTE: u32 = 0x100;
@@ -167,9 +168,9 @@ pub fn order_head(words: &[u32], a: usize) -> OrderHead
 fn put_head(positions: u32, accepting: u64, arcs: u32, out: &mut [u32], at: usize) -> usize
     ensures { λ r. ⌜ Writes (now (out .entry)) at (positions ∷ accepting % W ∷ accepting / W ∷ arcs ∷ []) (now (out .exit)) r ⌝ }
 {
-    let begun = put(out, at, positions);
-    let marked = put_set(out, begun, accepting);
-    put(out, marked, arcs)
+    let low = (accepting % WORD) as u32;
+    let high = (accepting / WORD) as u32;
+    copy(&[positions, low, high, arcs], 0, 4, out, at)
 }
 
 // Writes the order part at `a`, lifted.

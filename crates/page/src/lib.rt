@@ -19,7 +19,7 @@ use model::Answer;
 use model::Refusal;
 
 // 2 to the power 32
-const WORD: u64 = 0x1_0000_0000;
+pub const WORD: u64 = 0x1_0000_0000;
 
 // numbers from here on are in no set
 const LIMIT: u32 = 64;

@@ -16,8 +16,8 @@ small c =
     let g = count-fields (in-T .1) in
     (omega arith, omega arith, omega arith, omega arith)
 
-abbrev reads : tie.After-slice-known3 → tie.After-at2
-reads c = let put = c .before .before .before .before .before .before in put .before .before
+abbrev reads : tie.After-lift-steps2 → tie.After-at2
+reads c = let put = c .before .before .before .before .before .before .before .before in put .before .before
 
 pub join-counts-spec : {M : Type 1} → statement M
 join-counts-spec =
@@ -29,19 +29,25 @@ join-counts-spec =
     (λ c. omega (arith, small (c .before)))
     (λ c κs. search needs)
     (λ c κs. search needs)
-    (λ c. omega (arith, small (reads c)))
-    (λ c. omega (arith, small (reads c)))
-    (λ c. omega (arith, small (reads c)))
+    (λ c κs.
+    let read = c .before .before .before .before .before .before .before .before .before in
+    let (few, in-S, in-T) = read .before .before .before .before .before .pre in
+    (record { few = few; shift = omega (arith, small read) }, in-T))
+    (λ c. omega (arith, small (reads (c .before .before))))
+    (λ c. omega (arith, small (reads (c .before .before))))
+    (λ c. omega (arith, small (reads (c .before .before))))
     (λ c. search needs)
     (λ c κs. search needs)
     (λ c. search needs)
     (λ c.
     let closing = c .before .before in
-    let both = closing .before .before .before .before .before in
-    let put = both .before .before .before .before in
-    let read = put .before .before in
+    let upper = closing .before .before .before .before .before in
+    let lower = upper .before .before .before .before in
+    let put = lower .before .before .before .before in
+    let read = reads upper in
     λ ss ts h k.
     let m = count-fields h .number ∙ sym (read .before .at .ensures) in
     let n = count-fields k .number ∙ sym (read .at2 .ensures) in
     as-words (joint-count-words _ ss ts m n)
-    (then (put .put .ensures) (then (both .lift-both .ensures ss ts h k) (closing .copy .ensures)))))
+    (then (put .put .ensures)
+    (then (lower .lift-steps .ensures ss h) (then (upper .lift-steps2 .ensures ts k) (closing .copy .ensures))))))
