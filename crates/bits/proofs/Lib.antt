@@ -1,5 +1,5 @@
 pub mod BitLaws
-mod MemberLaws
+pub mod MemberLaws
 pub mod SetLaws
 pub mod GistLaws
 mod SignedLaws

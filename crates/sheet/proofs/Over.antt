@@ -1,6 +1,6 @@
 -- Bytes over at a file's end: a last word that is in no range is read as if it were missing, and no reader goes past the end.
 -- So the place of a sheet's refusal is at most the most words of a sheet.
-use mathlib.Core.Path.{_≡_, refl, sym, ap, _∙_}
+use mathlib.Core.Path.{_≡_, refl, sym}
 use mathlib.Core.Bool.{Bool, true, false, cond, _&&_, and-false}
 use mathlib.Core.List.{List, [], _∷_, _++_, List·Memᴰ·head, List·Memᴰ·tail}
 use Prim.Native.Nat.{ℕ, _+_, _-_, _^_, _≤_, _<_, min}
@@ -16,91 +16,67 @@ use Rattle.model.specs.Sheet.{Sheet, W, Got, got, bad, Reader, give, then, _>>=
 use Rattle.model.specs.Sheet.{set-below, arc-ok, arc, order, coefficient, sum, at-most-step, remainder-step, one-earlier, two-earlier, step}
 use Rattle.model.specs.Sheet.{steps}
 use Rattle.model.specs.Sheet.{target, text-rule, tag-rule, order-rule, count-rule, order-count-rule, rule, sheet, ended, sheet-of}
-use Rattle.model.proofs.Tests.{Yes, Told, yea, nay, told, between-inv}
+use Rattle.model.proofs.Tests.{Yes, Told, yea, nay, told, and-left, and-right, between-inv}
 use Rattle.model.proofs.CheckLaws.{refuses≢passes}
 use Rattle.model.proofs.ListLaws.{numbers-<}
-use Rattle.model.proofs.Spans.{word-there, word-reads}
 
 -- the words and one more, in no range
 abbrev pub over : List ℕ → List ℕ
 over s = s ++ (W ∷ [])
 
--- what is got ends, or stops, at an index of at most len
-abbrev pub Within : {A : Type 0} → ℕ → Got A → Type 0
-Within len (got a n) = n ≤ len
-Within len (bad k) = k ≤ len
+-- two results that are the same and end, or stop, at an index of at most len
+pub data Alike {A : Type 0} (len : ℕ) : Got A → Got A → Type 0 where
+  both-got : (x : A) {n : ℕ} → n ≤ len → Alike len (got x n) (got x n)
+  both-bad : {k : ℕ} → k ≤ len → Alike len (bad k) (bad k)
 
 -- a last word in no range changes nothing, and the reader stays within the words
 pub record Closed {A : Type 0} (r : Reader A) : Type 0 where
-  pub same : (s : List ℕ) (i : ℕ) → r (over s) i ≡ r s i
-  pub inside : (s : List ℕ) (i : ℕ) → i ≤ length s → Within (length s) (r s i)
+  pub alike : (s : List ℕ) (i : ℕ) → i ≤ length s → Alike (length s) (r (over s) i) (r s i)
 
 -- ---- readers that are made of others
 
--- a test that fails on the last word
-last-fails : {A : Type 0} (ok : ℕ → Bool) → ok W ≡ false → (s : List ℕ) (i : ℕ) (f g : ℕ → A) (y : A) → ((x : ℕ) → f x ≡ g x)
-    → cond (ltb i (length (over s)) && ok (getD (over s) i 0)) (f (getD (over s) i 0)) y ≡ cond (ltb i (length s) && ok (getD s i 0))
-    (g (getD s i 0)) y
-last-fails ok h s i f g y e = go (told (ltb i (length s))) (told (eqb i (length s)))
-  where
-    long : length (over s) ≡ length s + 1
-    long = length-append s (W ∷ [])
-
-    go : Told (ltb i (length s)) → Told (eqb i (length s))
-        → cond (ltb i (length (over s)) && ok (getD (over s) i 0)) (f (getD (over s) i 0)) y ≡ cond (ltb i (length s) && ok (getD s i 0))
-        (g (getD s i 0)) y
-    go (yea t) u =
-        let l = tests.ltb-true i (length s) t in
-        rw (tests.lt-ltb i (length (over s)) (omega (arith, long)), t, List·getD-append s (W ∷ []) 0 i l, e (getD s i 0))
-    go (nay t) (yea u) =
-        let z : getD (over s) i 0 ≡ W = ap (λ (x : ℕ). getD (over s) x 0) (tests.eqb-true i (length s) u) ∙ getD-append-seam s W [] 0 in
-        rw (t, z, h, and-false (ltb i (length (over s))))
-    go (nay t) (nay u) =
-        let l = tests.ltb-false i (length s) t in
-        rw (t, tests.le-ltb i (length (over s)) (omega (arith, long, tests.eqb-false i (length s) u)))
-
 closed-give : {A : Type 0} (x : A) → Closed (give x)
-closed-give x = record { same = λ s i. refl; inside = λ s i h. h }
+closed-give x = record { alike = λ s i l. both-got x l }
 
 closed-then : {A B : Type 0} {r : Reader A} {f : A → Reader B} → Closed r → ((x : A) → Closed (f x)) → Closed (r >>= f)
 unfolding then
-closed-then {A} {r = r} {f = f} h k = record
-    { same = λ s i. rw (h .same s i) (go s (r s i)); inside = λ s i l. on s (r s i) (h .inside s i l) }
+closed-then {A} {f = f} h k = record { alike = λ s i l. go s (h .alike s i l) }
   where
-    go : (s : List ℕ) (g : Got A) → then (over s) g f ≡ then s g f
-    go s (got x n) = k x .same s n
-    go s (bad j) = refl
+    go : (s : List ℕ) {g e : Got A} → Alike (length s) g e → Alike (length s) (then (over s) g f) (then s e f)
+    go s (both-got x {n = n} l) = k x .alike s n l
+    go s (both-bad l) = both-bad l
 
-    on : (s : List ℕ) (g : Got A) → Within (length s) g → Within (length s) (then s g f)
-    on s (got x n) l = k x .inside s n l
-    on s (bad j) l = l
+-- a test that fails on the last word
+module _ (ok : ℕ → Bool) (fails : ok W ≡ false) (s : List ℕ) (i : ℕ) (l : i ≤ length s) where
+  same-test : (ltb i (length (over s)) && ok (getD (over s) i 0)) ≡ (ltb i (length s) && ok (getD s i 0))
+  same-test = go (told (ltb i (length s)))
+    where
+      go : Told (ltb i (length s)) → (ltb i (length (over s)) && ok (getD (over s) i 0)) ≡ (ltb i (length s) && ok (getD s i 0))
+      go (yea t) =
+          let m = tests.ltb-true i (length s) t in
+          rw (tests.lt-ltb i (length (over s)) (omega (arith, length-append s (W ∷ []))), t, List·getD-append s (W ∷ []) 0 i m)
+      go (nay t) =
+          let e : i ≡ length s = omega (arith, tests.ltb-false i (length s) t) in
+          rw (t, e, getD-append-seam s W [] 0, fails, and-false (ltb (length s) (length (over s))))
 
--- a word that fails is the place itself
-word-stops : (ok : ℕ → Bool) (s : List ℕ) (i : ℕ) {j : ℕ} → word ok s i ≡ bad j → i ≡ j
-unfolding word
-word-stops ok s i {j} e = go (ltb i (length s) && ok (getD s i 0)) e
-  where
-    go : (b : Bool) → cond b (got (getD s i 0) (i + 1)) (bad i) ≡ bad j → i ≡ j
-    go true e = cc
-    go false e = cc
+  tested : Yes (ltb i (length s) && ok (getD s i 0)) → (i < length s) × Yes (ok (getD s i 0))
+  tested y = (tests.ltb-true i (length s) (and-left (ltb i (length s)) (ok (getD s i 0)) y), and-right (ltb i (length s)) (ok (getD s i 0)) y)
 
 -- what a word's test tells is known of what follows
-closed-word : {B : Type 0} {ok : ℕ → Bool} {f : ℕ → Reader B} → ok W ≡ false → ((x : ℕ) → Yes (ok x) → Closed (f x)) → Closed
-    (word ok >>= f)
+closed-word : {B : Type 0} {ok : ℕ → Bool} {f : ℕ → Reader B} → ok W ≡ false → ((x : ℕ) → Yes (ok x) → Closed (f x))
+    → Closed (word ok >>= f)
 unfolding then word
-closed-word {ok = ok} {f = f} h k = record {
-  same = λ s i. rw (last-fails ok h s i (λ x. got x (i + 1)) (λ x. got x (i + 1)) (bad i) (λ x. refl)) (go s i (word ok s i) refl);
-  inside = λ s i l. on s i l (word ok s i) refl;
+closed-word {ok = ok} {f = f} fails k = record {
+  alike = λ s i l. rw (same-test ok fails s i l) (go s i l (told (ltb i (length s) && ok (getD s i 0))));
 }
   where
-    go : (s : List ℕ) (i : ℕ) (g : Got ℕ) → word ok s i ≡ g → then (over s) g f ≡ then s g f
-    go s i (got x n) e = k x (word-reads ok .forwards {s = s} {a = i} e .0) .same s n
-    go s i (bad j) e = refl
-
-    on : (s : List ℕ) (i : ℕ) → i ≤ length s → (g : Got ℕ) → word ok s i ≡ g → Within (length s) (then s g f)
-    on s i l (got x n) e = let (y, p) = word-reads ok .forwards {s = s} {a = i} e in k x y .inside s n
-        (omega (arith, word-there p, p .ends))
-    on s i l (bad j) e = omega (arith, word-stops ok s i e)
+    go : (s : List ℕ) (i : ℕ) → i ≤ length s → Told (ltb i (length s) && ok (getD s i 0))
+        → Alike (length s) (then (over s) (cond (ltb i (length s) && ok (getD s i 0)) (got (getD (over s) i 0) (i + 1)) (bad i)) f)
+        (then s (cond (ltb i (length s) && ok (getD s i 0)) (got (getD s i 0) (i + 1)) (bad i)) f)
+    go s i l (yea y) =
+        let (m, h) = tested ok fails s i l y in
+        rw (y, List·getD-append s (W ∷ []) 0 i m) (k (getD s i 0) h .alike s (i + 1) (omega arith))
+    go s i l (nay y) = rw y (both-bad l)
 
 closed-all : {A B : Type 0} {r : B → Reader A} (l : List B) → ((b : B) → b ∈ l → Closed (r b)) → Closed (all r l)
 unfolding all
@@ -110,23 +86,20 @@ closed-all (b ∷ l) h =
 
 closed-none : {A : Type 0} → Closed (one-of {A = A} [])
 unfolding one-of
-closed-none = record { same = λ s i. refl; inside = λ s i h. h }
+closed-none = record { alike = λ s i l. both-bad l }
 
-closed-key : {A : Type 0} (k : ℕ) {r : Reader A} (cs : List (ℕ × Reader A)) → eqb W k ≡ false → Closed r → Closed (one-of cs) → Closed
-    (one-of ((k, r) ∷ cs))
+closed-key : {A : Type 0} (k : ℕ) {r : Reader A} (cs : List (ℕ × Reader A)) → eqb W k ≡ false → Closed r → Closed (one-of cs)
+    → Closed (one-of ((k, r) ∷ cs))
 unfolding one-of
-closed-key k {r} cs h hr hc = record {
-  same = λ s i.
-      rw (hc .same s i)
-      (last-fails (λ x. eqb x k) h s i (λ x. r (over s) (i + 1)) (λ x. r s (i + 1)) (one-of cs s i) (λ x. hr .same s (i + 1)));
-  inside = λ s i l. go s i (told (ltb i (length s))) (eqb (getD s i 0) k) (hc .inside s i l);
+closed-key k {r} cs fails hr hc = record {
+  alike = λ s i l. rw (same-test (λ x. eqb x k) fails s i l) (go s i l (told (ltb i (length s) && eqb (getD s i 0) k)));
 }
   where
-    go : (s : List ℕ) (i : ℕ) → Told (ltb i (length s)) → (b : Bool) → Within (length s) (one-of cs s i)
-        → Within (length s) (cond (ltb i (length s) && b) (r s (i + 1)) (one-of cs s i))
-    go s i (yea t) true w = rw t (hr .inside s (i + 1) (omega (arith, tests.ltb-true i (length s) t)))
-    go s i (yea t) false w = rw t w
-    go s i (nay t) b w = rw t w
+    go : (s : List ℕ) (i : ℕ) → i ≤ length s → Told (ltb i (length s) && eqb (getD s i 0) k)
+        → Alike (length s) (cond (ltb i (length s) && eqb (getD s i 0) k) (r (over s) (i + 1)) (one-of cs (over s) i))
+        (cond (ltb i (length s) && eqb (getD s i 0) k) (r s (i + 1)) (one-of cs s i))
+    go s i l (yea y) = let (m, _) = tested (λ x. eqb x k) fails s i l y in rw y (hr .alike s (i + 1) (omega arith))
+    go s i l (nay y) = rw y (hc .alike s i l)
 
 -- ---- tests that fail on the last word
 
@@ -203,12 +176,12 @@ closed-sheet =
 
 pub refused-place : (s : List ℕ) {n i : ℕ} → sheet-of s ≡ refuses n i → i ≤ 16384
 unfolding sheet-of ended
-refused-place s {n} {i} e = go (sheet (take 16384 s) 0) (closed-sheet .inside (take 16384 s) 0 (omega arith)) e
+refused-place s {n} {i} = go (closed-sheet .alike (take 16384 s) 0 (omega arith))
   where
-    go : (g : Got Sheet) → Within (length (take 16384 s)) g → ended (length s) g ≡ refuses n i → i ≤ 16384
-    go (got t m) l e = by (eqb m (length s)) e
+    go : {g e : Got Sheet} → Alike (length (take 16384 s)) g e → ended (length s) e ≡ refuses n i → i ≤ 16384
+    go (both-got t {n = m} l) e = by (eqb m (length s)) e
       where
         by : (b : Bool) → cond b (passes t) (refuses 9 m) ≡ refuses n i → i ≤ 16384
         by true e = absurd (refuses≢passes (sym e))
         by false e = let d : m ≡ i = cc in omega (arith, length-take 16384 s)
-    go (bad k) l e = let d : k ≡ i = cc in omega (arith, length-take 16384 s)
+    go (both-bad {k = k} l) e = let d : k ≡ i = cc in omega (arith, length-take 16384 s)

@@ -2,9 +2,8 @@
 ghost use mathlib.Core.Path.{_≡_};
 ghost use mathlib.Core.List.{_++_};
 ghost use Prim.Native.Nat.{_+_, _*_, _<_, _≤_};
-ghost use lib.ListN.{length, take, drop};
+ghost use lib.ListN.{length, getD, take, drop};
 ghost use Rattle.model.specs.Sheet.{file-words};
-ghost use Rattle.sheet_file.specs.Files.{four-bytes};
 
 // A byte as a word.
 fn wide(byte: u8) -> u32
@@ -13,11 +12,12 @@ fn wide(byte: u8) -> u32
     byte as u32
 }
 
-// The word of the four bytes from `at` on.
-fn word_of(bytes: &[u8], at: usize) -> u32
-    requires { ⌜ at + 4 ≤ length (now bytes) ⌝ }
-    ensures { λ r. ⌜ r ≡ four-bytes (now (bytes .entry)) at ⌝ }
+// Word i of the file.
+fn word_of(bytes: &[u8], i: usize) -> u32
+    requires { ⌜ i * 4 + 4 ≤ length (now bytes) ⌝ }
+    ensures { λ r. ⌜ r ≡ getD (file-words (now (bytes .entry))) i 0 ⌝ }
 {
+    let at = i * 4;
     let a = wide(bytes[at]);
     let b = wide(bytes[at + 1]);
     let c = wide(bytes[at + 2]);
@@ -32,7 +32,7 @@ pub fn put_words(bytes: &[u8], words: &mut [u32], n: usize)
 {
     let mut i = 0;
     while i < n {
-        words[i] = word_of(bytes, i * 4);
+        words[i] = word_of(bytes, i);
         i += 1;
     }
 }

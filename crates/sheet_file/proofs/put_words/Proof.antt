@@ -1,9 +1,9 @@
 -- `sheet_file::put_words` meets its contract.
-use mathlib.Core.Path.{_≡_, refl, ap, _∙_}
-use mathlib.Core.List.{List, _++_}
-use Prim.Native.Nat.{ℕ, _-_, _≤_}
+use mathlib.Core.Path.{_≡_, refl}
+use mathlib.Core.List.{_++_}
+use Prim.Native.Nat.{_-_, _≤_}
 use native.Mathlib.Omega.{arith}
-use lib.ListN.{length, take, drop, set, length-set}
+use lib.ListN.{length, take, drop, length-set}
 use Rattle.model.specs.Sheet.{file-words}
 use Rattle.sheet_file.proofs.FileWords.{front-more}
 use Rattle.sheet_file.proofs.put_words.Statement.{statement}
@@ -22,20 +22,13 @@ put-words-spec =
     Inv-loop
     μ-loop
     (λ c. (omega arith, refl, refl))
-    (λ c. omega arith)
     (λ c κs. omega arith)
     (λ c. omega arith)
     (λ c. omega arith)
     (λ c. omega arith)
     (λ c. omega arith)
     (λ c.
-    let a = c .before .before .before .before .before .args in
-    let l = c .before .before .loop in
-    let v = c .word-of .result in
-    let put = front-more (a .bytes .now) (a .words .now) (l .i) v (omega arith) (omega arith) (c .word-of .ensures) in
-    (omega arith, ap (λ (x : List ℕ). set x (l .i) v) (l .inv .1) ∙ put, simp length-set (l .inv .2)))
+    let (_, words, long) = c .before .before .loop .inv in
+    (omega arith, front-more _ _ words (omega arith) (omega arith) (c .word-of .ensures), simp length-set long))
     (λ c. c .before .loop .inv .2)
-    (λ c.
-    let a = c .before .before .before .before .args in
-    let e : c .before .loop .i ≡ a .n = omega arith in
-    c .before .loop .inv .1 ∙ ap (λ (k : ℕ). take k (file-words (a .bytes .now)) ++ drop k (a .words .now)) e))
+    (λ c. let e : c .before .loop .i ≡ c .before .before .before .before .args .n = omega arith in rw e at (c .before .loop .inv .1)))
