@@ -1,6 +1,5 @@
 // Answers as numbers: for C, and for programs that print them.
-ghost use mathlib.Core.Path.{_≡_};
-ghost use Rattle.model.specs.Answers.{said-refusal, said, said-judgement};
+ghost use Rattle.model.specs.Answers.{refusal, said-refusal, said, said-judgement};
 ghost use Rattle.answers.specs.Numbers.{Tells};
 use model::Answer;
 use model::Judgement;
@@ -29,7 +28,7 @@ pub struct Numbers {
 }
 
 fn error(number: u64, place: usize) -> Numbers
-    ensures { λ r. ⌜ (r .kind ≡ 4) × (r .first ≡ number) × (r .second ≡ place) ⌝ }
+    ensures { λ r. ⌜ Tells r (refusal number place) ⌝ }
 {
     Numbers {
         kind: ERROR,

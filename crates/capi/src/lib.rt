@@ -5,32 +5,10 @@ ghost use mathlib.Core.Path.{_≡_};
 ghost use Rattle.model.specs.Calls.{names-said, read-said, read-tree, tree-said, write-said, write-out, sheet-said, from-file-said};
 ghost use Rattle.model.specs.Calls.{from-file-sheet, judge-said, judge-states, swap-said, swap-out, join-said, join-out, formcheck};
 ghost use Rattle.answers.specs.Numbers.{kind-of};
-ghost use Rattle.capi.specs.Lent.{filled, answer-after};
-use answers::Numbers;
+ghost use Rattle.capi_lent.specs.Lent.{answer-after};
 use answers::of_answer;
 use answers::of_judgement;
-
-// The numbers to the front of the lent array, and the kind.
-fn hand_over(numbers: Numbers, answer: &mut [u64]) -> u32
-    ensures kind { λ r. ⌜ r ≡ numbers .kind ⌝ }
-    ensures answer { λ r. ⌜ now (answer .exit) ≡ filled (now (answer .entry)) (numbers .kind) (numbers .first) (numbers .second) ⌝ }
-{
-    let kind = numbers.kind;
-    let room = answer.len();
-    if room < 1 {
-        return kind;
-    }
-    answer[0] = kind as u64;
-    if room < 2 {
-        return kind;
-    }
-    answer[1] = numbers.first;
-    if room < 3 {
-        return kind;
-    }
-    answer[2] = numbers.second;
-    kind
-}
+use capi_lent::hand_over;
 
 // The number of names of a list, or 8.
 #[no_mangle]

@@ -4,7 +4,7 @@ ghost use mathlib.Core.List.{_++_};
 ghost use Prim.Native.Nat.{_+_, _≤_};
 ghost use lib.ListN.{length, drop};
 ghost use Rattle.io.specs.Counts.{Counts};
-ghost use Rattle.model.specs.Answers.{said, said-judgement, said-refusal};
+ghost use Rattle.model.specs.Answers.{count, said, said-judgement, said-refusal};
 ghost use Rattle.model.specs.Line.{field, line-of};
 ghost use Rattle.line.specs.Puts.{Put, pair-line};
 use model::Answer;
@@ -60,6 +60,14 @@ fn error(refusal: Refusal, out: &mut [u8; MOST_BYTES]) -> usize
     pair(b"error", numbers.first, numbers.second, out)
 }
 
+fn count(n: u64, out: &mut [u8; MOST_BYTES]) -> usize
+    ensures { λ r. ⌜ Put (now (out .entry)) 0 (line-of (count n)) r (now (out .exit)) ⌝ }
+{
+    let number_at = put(out, 0, b"count");
+    let last = put_field(out, number_at, n);
+    put(out, last, b"\n")
+}
+
 // The line of a count or a refusal goes to the front of `out`; its number of bytes.
 pub fn of_answer(answer: Answer, out: &mut [u8; MOST_BYTES]) -> usize
     ensures bytes { λ r. ⌜ r ≡ length (line-of (said answer)) ⌝ }
@@ -67,11 +75,7 @@ pub fn of_answer(answer: Answer, out: &mut [u8; MOST_BYTES]) -> usize
     ensures within { λ r. ⌜ Counts r (now (out .exit)) ⌝ }
 {
     match answer {
-        Answer::Count(n) => {
-            let number_at = put(out, 0, b"count");
-            let last = put_field(out, number_at, n as u64);
-            put(out, last, b"\n")
-        }
+        Answer::Count(n) => count(n as u64, out),
         Answer::Error(refusal) => error(refusal, out),
     }
 }

@@ -1,6 +1,6 @@
 -- `formcheck_swap` meets its contract: the answer of the call, in numbers.
 use borrow.Author.Needs.{needs}
-use Rattle.capi.proofs.LentLaws.{handed-with}
+use Rattle.capi_lent.proofs.LentLaws.{handed-with}
 use Rattle.capi.proofs.formcheck_swap.Statement.{statement}
 use Rattle.capi.proofs.formcheck_swap.Tie as tie
 

@@ -1,9 +1,9 @@
 -- `hand_over` meets its contract, by the length of the lent array.
 use mathlib.Core.Path.{refl}
 use borrow.Author.Needs.{needs}
-use Rattle.capi.proofs.LentLaws.{room-for-none, room-for-one, room-for-two, room-for-all}
-use Rattle.capi.proofs.hand_over.Statement.{statement}
-use Rattle.capi.proofs.hand_over.Tie as tie
+use Rattle.capi_lent.proofs.LentLaws.{room-for-none, room-for-one, room-for-two, room-for-all}
+use Rattle.capi_lent.proofs.hand_over.Statement.{statement}
+use Rattle.capi_lent.proofs.hand_over.Tie as tie
 
 pub hand-over-spec : {M : Type 1} → statement M
 hand-over-spec =

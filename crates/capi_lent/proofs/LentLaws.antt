@@ -7,7 +7,7 @@ use lib.ListN.{length, set}
 use Rattle.model.specs.Answers.{Said}
 use Rattle.answers.specs.declared.Numbers.{Numbers}
 use Rattle.answers.specs.Numbers.{Tells, kind-of, first-of, second-of}
-use Rattle.capi.specs.Lent.{filled, answer-after}
+use Rattle.capi_lent.specs.Lent.{filled, answer-after}
 
 -- ---- as many of the three numbers as there is room for
 
