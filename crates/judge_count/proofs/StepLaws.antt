@@ -1,8 +1,8 @@
 -- Steps of a count part, by kind: where their words stand, where they end, and what they say.
-use mathlib.Core.Path.{_≡_, refl, sym, ap, ap₂, _∙_, subst}
+use mathlib.Core.Path.{_≡_, refl, ap, ap₂, _∙_, subst}
 use mathlib.Core.Logic.{_≢_}
-use mathlib.Core.Bool.{Bool, false, cond, not, _&&_, _||_}
-use mathlib.Core.List.{List, [], _∷_}
+use mathlib.Core.Bool.{Bool, false, not, _&&_, _||_}
+use mathlib.Core.List.{List, [], _∷_, _++_}
 use Prim.Native.Nat.{ℕ, zero, suc, _+_, _≤_, _<_}
 use native.Mathlib.Omega.{arith}
 use lib.Dec.{eqb}
@@ -10,41 +10,39 @@ use lib.IntN.{ℤ}
 use lib.Signed.{leZ}
 use lib.ListN.{length, getD}
 use borrow.Author.Tests.{ne-eqb}
-use Rattle.model.specs.Sheet.{Step, at-most, remainder, not-step, and-step, or-step, sum-words, signed-word, step-words, StepInRange}
-use Rattle.model.specs.Sheet.{signed, bit}
+use Rattle.model.specs.Sheet.{Coefficient, Step, at-most, remainder, not-step, and-step, or-step, sum-words, signed-word, step-words}
+use Rattle.model.specs.Sheet.{SumInRange, StepInRange, signed, bit}
 use Rattle.model.specs.Words.{total, remainder-of, holds}
 use Rattle.model.specs.Spans.{WordsAt}
 use Rattle.model.proofs.Spans.{span-left, span-right, word-there, word-here, word-next}
-use Rattle.judge_count.specs.Count.{Occurs, SumFrom, Summed, StepFrom, Truths}
+use Rattle.judge_count.specs.Count.{Occurs, Counts, SumFrom, Summed, AtMost, Leaves, StepFrom, Truths}
 use Rattle.judge_count.proofs.SumLaws.{signed-back}
 
 -- ---- what stands at a step
 
--- a sum that begins a word later, and the place past it
+-- n words from word m on end a step, which holds by a test on the child states and the earlier steps
+pub record Ends (part : List ℕ) (m n next : ℕ) (s : Step) (test : List ℕ → List Bool → Bool) : Type 0 where
+  pub room : m + n < length part
+  pub ends : m + n + 1 ≡ next
+  pub says : (w : List ℕ) (earlier : List Bool) → test w earlier ≡ holds w earlier s
+
+-- after a sum that begins a word later
 pub record AtMostAt (part : List ℕ) (at next : ℕ) (s : Step) : Type 0 where
   pub sum : SumFrom part (at + 1)
-  pub room : sum .next < length part
-  pub ends : sum .next + 1 ≡ next
-  pub says : (w : List ℕ) (earlier : List Bool) → leZ (total (sum .coefficients) w) (signed (getD part (sum .next) 0)) ≡ holds w earlier s
+  pub rest : Ends part (sum .next) 0 next s (λ w earlier. leZ (total (sum .coefficients) w) (signed (getD part (sum .next) 0)))
 
 pub record RemainderAt (part : List ℕ) (at next : ℕ) (s : Step) : Type 0 where
   pub sum : SumFrom part (at + 1)
-  pub room : sum .next + 1 < length part
-  pub ends : sum .next + 2 ≡ next
   pub some-modulus : getD part (sum .next) 0 ≢ 0
-  pub says : (w : List ℕ) (earlier : List Bool) → eqb (remainder-of (total (sum .coefficients) w) (getD part (sum .next) 0))
-      (getD part (sum .next + 1) 0) ≡ holds w earlier s
+  pub rest : Ends part (sum .next) 1 next s
+      (λ w earlier. eqb (remainder-of (total (sum .coefficients) w) (getD part (sum .next) 0)) (getD part (sum .next + 1) 0))
 
-pub record NotAt (part : List ℕ) (at next : ℕ) (s : Step) : Type 0 where
-  pub room : at + 1 < length part
-  pub ends : at + 2 ≡ next
-  pub says : (w : List ℕ) (earlier : List Bool) → not (getD earlier (getD part (at + 1) 0) false) ≡ holds w earlier s
+abbrev NotAt : (part : List ℕ) (at next : ℕ) → Step → Type 0
+NotAt part at next s = Ends part at 1 next s (λ w earlier. not (getD earlier (getD part (at + 1) 0) false))
 
-pub record PairAt (op : Bool → Bool → Bool) (part : List ℕ) (at next : ℕ) (s : Step) : Type 0 where
-  pub room : at + 2 < length part
-  pub ends : at + 3 ≡ next
-  pub says : (w : List ℕ) (earlier : List Bool) → op (getD earlier (getD part (at + 1) 0) false)
-      (getD earlier (getD part (at + 2) 0) false) ≡ holds w earlier s
+abbrev PairAt : (Bool → Bool → Bool) → (part : List ℕ) (at next : ℕ) → Step → Type 0
+PairAt op part at next s =
+    Ends part at 2 next s (λ w earlier. op (getD earlier (getD part (at + 1) 0) false) (getD earlier (getD part (at + 2) 0) false))
 
 abbrev pub Said : ℕ → List ℕ → ℕ → ℕ → Step → Type 0
 Said zero part at next s = ⊥
@@ -56,80 +54,67 @@ Said (suc (suc (suc (suc (suc zero))))) part at next s = PairAt _||_ part at nex
 Said (suc (suc (suc (suc (suc (suc k)))))) part at next s = ⊥
 
 module _ {part : List ℕ} {at : ℕ} where
+  -- the sum of a step, and the words after it
+  sum-there : {p next k : ℕ} (cs : List Coefficient) (v : List ℕ) → p ≤ 64 → SumInRange p cs → WordsAt part at next (k ∷ (sum-words p cs ++ v))
+      → (sum : SumFrom part (at + 1)) × (sum .coefficients ≡ cs) × WordsAt part (sum .next) next v
+  sum-there {p} cs v few h k =
+      let u = sum-words p cs in
+      let left : SumFrom part (at + 1) = record {
+        states = p;
+        coefficients = cs;
+        next = at + 1 + length u;
+        few-states = few;
+        in-range = h;
+        stands = span-left u v (word-next k);
+      } in
+      (left, refl, span-right u v (word-next k))
+
   -- two words behind the kind
-  two-behind : {next k i j : ℕ} → WordsAt part at next (k ∷ i ∷ j ∷ []) → (at + 2 < length part) × (at + 3 ≡ next) ×
-      (getD part (at + 1) 0 ≡ i) × (getD part (at + 2) 0 ≡ j)
-  two-behind {next} k =
+  pair-there : {next k i j : ℕ} (op : Bool → Bool → Bool) (s : Step)
+      → ((w : List ℕ) (earlier : List Bool) → op (getD earlier i false) (getD earlier j false) ≡ holds w earlier s)
+      → WordsAt part at next (k ∷ i ∷ j ∷ []) → PairAt op part at next s
+  pair-there {next} op s same k =
       let second : WordsAt part (at + 1 + 1) next (_ ∷ []) = word-next (word-next k) in
-      let place : at + 1 + 1 ≡ at + 2 = omega arith in (
-        omega (arith, word-there second),
-        omega (arith, k .ends),
-        word-here (word-next k),
-        ap (λ (n : ℕ). getD part n 0) (sym place) ∙ word-here second,
-      )
+      let place : at + 1 + 1 ≡ at + 2 = omega arith in
+      record {
+        room = omega (arith, word-there second);
+        ends = omega (arith, k .ends);
+        says = λ w earlier. rw (word-here (word-next k), ← place, word-here second) (same w earlier);
+      }
 
   says : (p i next : ℕ) (s : Step) → p ≤ 64 → StepInRange p i s → WordsAt part at next (step-words p s) → Said
       (getD part at 0) part at next s
   unfolding step-words holds
   says p i next (at-most cs b) few (h, y) k =
-      let u = sum-words p cs in
-      let v : List ℕ = signed-word b ∷ [] in
-      let last : WordsAt part (at + 1 + length u) next v = span-right u v (word-next k) in
+      let (sum, is, last) = sum-there cs (signed-word b ∷ []) few h k in
       rw (word-here k) (record {
-        sum = record {
-          states = p;
-          coefficients = cs;
-          next = at + 1 + length u;
-          few-states = few;
-          in-range = h;
-          stands = span-left u v
-              (word-next k);
+        sum = sum;
+        rest = record {
+          room = omega (arith, word-there last);
+          ends = omega (arith, last .ends);
+          says = λ w earlier. rw is (ap (leZ (total cs w)) (ap signed (word-here last) ∙ signed-back b y));
         };
-        room = word-there last;
-        ends = sym (last .ends);
-        says = λ w earlier. ap (leZ (total cs w)) (ap signed (word-here last) ∙ signed-back b y);
       })
   says p i next (remainder cs m r) few (h, lo, hi, l) k =
-      let u = sum-words p cs in
-      let v : List ℕ = m ∷ r ∷ [] in
-      let last : WordsAt part (at + 1 + length u) next v = span-right u v (word-next k) in
+      let (sum, is, last) = sum-there cs (m ∷ r ∷ []) few h k in
       rw (word-here k) (record {
-        sum = record {
-          states = p;
-          coefficients = cs;
-          next = at + 1 + length u;
-          few-states = few;
-          in-range = h;
-          stands = span-left u v
-              (word-next k);
-        };
-        room = word-there (word-next last);
-        ends = sym (last .ends);
+        sum = sum;
         some-modulus = λ e. omega (arith, word-here last);
-        says = λ w earlier. ap₂ (λ (x y : ℕ). eqb (remainder-of (total cs w) x) y) (word-here last) (word-here (word-next last));
+        rest = record {
+          room = word-there (word-next last);
+          ends = omega (arith, last .ends);
+          says = λ w earlier. rw is
+              (ap₂ (λ (x y : ℕ). eqb (remainder-of (total cs w) x) y) (word-here last) (word-here (word-next last)));
+        };
       })
   says p i next (not-step j) few h k =
       rw (word-here k) (record {
         room = word-there (word-next k);
-        ends = sym (k .ends);
+        ends = omega (arith, k .ends);
         says = λ w earlier. ap (λ (n : ℕ). not (getD earlier n false)) (word-here (word-next k));
       })
-  says p i next (and-step j l) few h k =
-      let (room, ends, ej, el) = two-behind k in
-      rw (word-here k) (record {
-        room = room;
-        ends = ends;
-        says = λ w earlier. ap₂
-            (λ (m n : ℕ). getD earlier m false && getD earlier n false) ej el;
-      })
-  says p i next (or-step j l) few h k =
-      let (room, ends, ej, el) = two-behind k in
-      rw (word-here k) (record {
-        room = room;
-        ends = ends;
-        says = λ w earlier. ap₂
-            (λ (m n : ℕ). getD earlier m false || getD earlier n false) ej el;
-      })
+  says p i next (and-step j l) few h k = rw (word-here k) (pair-there _&&_ (and-step j l) (λ w earlier. refl) k)
+  says p i next (or-step j l) few h k = rw (word-here k) (pair-there _||_ (or-step j l) (λ w earlier. refl) k)
 
   -- every step begins with its kind
   pub kind-there : StepFrom part at → at < length part
@@ -161,33 +146,27 @@ no-kind part at next s (suc (suc (suc (suc (suc (suc k)))))) t a b c d e = t
 -- ---- what the code finds
 
 -- after a sum up to word e
-module _ {part counts : List ℕ} {at e : ℕ} {z : ℤ} (sum : Summed part (at + 1) counts e z) {next : ℕ} {s : Step} {w : List ℕ}
-    (o : Occurs counts w) where
-  pub at-most-room : AtMostAt part at next s → e < length part
-  at-most-room a = omega (arith, sum (a .sum) w o .0, a .room)
+pub sum-room : {part counts : List ℕ} {from e n next : ℕ} {z : ℤ} {s : Step} {test : List ℕ → List Bool → Bool} → Summed part from counts e z
+    → Counts counts → (h : SumFrom part from) → Ends part (h .next) n next s test → e + n < length part
+sum-room sum (w, o) h t = omega (arith, sum h w o .0, t .room)
 
-  pub at-most-found : {b : ℤ} → b ≡ signed (getD part e 0) → AtMostAt part at next s → (earlier : List Bool) → (e + 1 ≡ next) ×
-      (leZ z b ≡ holds w earlier s)
-  at-most-found eb a earlier =
-      let (ee, ez) = sum (a .sum) w o in
-      (omega (arith, a .ends), ap₂ leZ ez (eb ∙ ap (λ (n : ℕ). signed (getD part n 0)) ee) ∙ a .says w earlier)
+module _ {part counts : List ℕ} {at e : ℕ} {z : ℤ} (sum : Summed part (at + 1) counts e z) {w : List ℕ} (o : Occurs counts w) where
+  module _ {next to : ℕ} {s : Step} {b : Bool} (earlier : List Bool) where
+    pub at-most-found : AtMost part e z to b → AtMostAt part at next s → (to ≡ next) × (b ≡ holds w earlier s)
+    at-most-found (eb, et) a =
+        let (ee, ez) = sum (a .sum) w o in
+        (omega (arith, a .rest .ends), eb ∙ rw (ee, ez) (a .rest .says w earlier))
 
-  pub remainder-room : RemainderAt part at next s → e + 1 < length part
-  remainder-room a = omega (arith, sum (a .sum) w o .0, a .room)
-
-  pub remainder-found : {r : ℕ} → r ≡ cond (eqb (getD part e 0) 0) 0 (remainder-of z (getD part e 0)) → RemainderAt part at next s →
-      (earlier : List Bool)
-      → (e + 2 ≡ next) × (eqb r (getD part (e + 1) 0) ≡ holds w earlier s)
-  remainder-found er a earlier =
-      let (ee, ez) = sum (a .sum) w o in
-      (omega (arith, a .ends), rw (er, ee, ez, ne-eqb _ 0 (a .some-modulus)) (a .says w earlier))
+    pub remainder-found : Leaves part e z to b → RemainderAt part at next s → (to ≡ next) × (b ≡ holds w earlier s)
+    remainder-found (eb, et) a =
+        let (ee, ez) = sum (a .sum) w o in
+        (omega (arith, a .rest .ends), eb ∙ rw (ee, ez, ne-eqb _ 0 (a .some-modulus)) (a .rest .says w earlier))
 
 -- of earlier steps
 module _ {part : List ℕ} {at truths next : ℕ} {s : Step} {earlier : List Bool} (t : Truths truths earlier) (w : List ℕ) where
   pub not-found : {a : Bool} → a ≡ bit truths (getD part (at + 1) 0) → NotAt part at next s → (at + 2 ≡ next) × (not a ≡ holds w earlier s)
-  not-found ea n = (n .ends, ap not (ea ∙ t .same _) ∙ n .says w earlier)
+  not-found ea n = (omega (arith, n .ends), ap not (ea ∙ t .same _) ∙ n .says w earlier)
 
-  pub pair-found : (op : Bool → Bool → Bool) {a b : Bool} → a ≡ bit truths (getD part (at + 1) 0) → b ≡ bit truths
-      (getD part (at + 2) 0) → PairAt op part at next s
-      → (at + 3 ≡ next) × (op a b ≡ holds w earlier s)
-  pair-found op ea eb p = (p .ends, ap₂ op (ea ∙ t .same _) (eb ∙ t .same _) ∙ p .says w earlier)
+  pub pair-found : (op : Bool → Bool → Bool) {a b : Bool} → a ≡ bit truths (getD part (at + 1) 0) → b ≡ bit truths (getD part (at + 2) 0)
+      → PairAt op part at next s → (at + 3 ≡ next) × (op a b ≡ holds w earlier s)
+  pair-found op ea eb p = (omega (arith, p .ends), ap₂ op (ea ∙ t .same _) (eb ∙ t .same _) ∙ p .says w earlier)

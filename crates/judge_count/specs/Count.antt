@@ -1,13 +1,15 @@
 -- What the functions on count parts are lent, and what they find, in the model's terms.
 use mathlib.Core.Path.{_≡_}
-use mathlib.Core.Bool.{Bool, false}
+use mathlib.Core.Bool.{Bool, false, cond}
 use mathlib.Core.List.{List}
 use mathlib.Core.Option.{some}
-use Prim.Native.Nat.{ℕ, _^_, _≤_, _<_}
+use Prim.Native.Nat.{ℕ, _+_, _^_, _≤_, _<_}
+use lib.Dec.{eqb}
 use lib.IntN.{ℤ}
+use lib.Signed.{leZ}
 use lib.ListN.{length, getD}
-use Rattle.model.specs.Sheet.{Coefficient, Step, sum-words, step-words, count-words, SumInRange, StepInRange, CountInRange, bit}
-use Rattle.model.specs.Words.{occurrences, total, holds, fits-count}
+use Rattle.model.specs.Sheet.{Coefficient, Step, sum-words, step-words, count-words, SumInRange, StepInRange, CountInRange, signed, bit}
+use Rattle.model.specs.Words.{occurrences, total, remainder-of, holds, fits-count}
 use Rattle.model.specs.Spans.{WordsAt}
 
 -- ---- children
@@ -49,6 +51,16 @@ pub record SumFrom (part : List ℕ) (from : ℕ) : Type 0 where
 abbrev pub Summed : List ℕ → ℕ → List ℕ → ℕ → ℤ → Type 0
 Summed part from counts next z = (h : SumFrom part from) (w : List ℕ) → Occurs counts w → (next ≡ h .next) × (z ≡ total (h .coefficients) w)
 
+-- a sum z is at most the bound at word `end`; the place past it
+abbrev pub AtMost : List ℕ → ℕ → ℤ → ℕ → Bool → Type 0
+AtMost part end z next b = (b ≡ leZ z (signed (getD part end 0))) × (next ≡ end + 1)
+
+-- a sum z leaves the remainder at word `end + 1` on division by the modulus at word `end`
+abbrev pub Leaves : List ℕ → ℕ → ℤ → ℕ → Bool → Type 0
+Leaves part end z next b =
+    let m = getD part end 0 in
+    (b ≡ eqb (cond (eqb m 0) 0 (remainder-of z m)) (getD part (end + 1) 0)) × (next ≡ end + 2)
+
 -- ---- steps
 
 -- the bits of `set` are the truths of the earlier steps
@@ -66,13 +78,6 @@ pub record StepFrom (part : List ℕ) (from : ℕ) : Type 0 where
   pub in-range : StepInRange states number step
   pub stands : WordsAt part from next (step-words states step)
 
-abbrev pub Judged : List ℕ → ℕ → List ℕ → List Bool → ℕ → Bool → Type 0
-Judged part from counts earlier next b =
-    (h : StepFrom part from) (w : List ℕ) → Occurs counts w → (next ≡ h .next) × (b ≡ holds w earlier (h .step))
-
--- by the truths of the earlier steps, and whatever they are
 abbrev pub StepSays : List ℕ → ℕ → List ℕ → ℕ → ℕ → Bool → Type 0
-StepSays part from counts truths next b = (earlier : List Bool) → Truths truths earlier → Judged part from counts earlier next b
-
-abbrev pub SumSays : List ℕ → ℕ → List ℕ → ℕ → Bool → Type 0
-SumSays part from counts next b = (earlier : List Bool) → Judged part from counts earlier next b
+StepSays part from counts truths next b = (earlier : List Bool) → Truths truths earlier → (h : StepFrom part from) (w : List ℕ)
+    → Occurs counts w → (next ≡ h .next) × (b ≡ holds w earlier (h .step))

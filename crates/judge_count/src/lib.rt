@@ -5,7 +5,7 @@ ghost use lib.ListN.{length, getD, replicate};
 ghost use lib.IntN.{pos, natAbs, _+ℤ_, _*ℤ_};
 ghost use Rattle.model.specs.Sheet.{bit};
 ghost use Rattle.judge_order.specs.Order.{StateWords, «states-of»};
-ghost use Rattle.judge_count.specs.Count.{Occurs, Counts, CountPart, CountSays, SumFrom, Summed, StepFrom, StepSays, SumSays};
+ghost use Rattle.judge_count.specs.Count.{Occurs, Counts, CountPart, CountSays, SumFrom, Summed, AtMost, Leaves, StepFrom, StepSays};
 use layout::AND;
 use layout::AT_MOST;
 use layout::NOT;
@@ -65,13 +65,11 @@ fn sum_at(part: &[u32], from: usize, counts: &[u32; STATES]) -> Sum
     Sum { total, next: at }
 }
 
-// A step of kind 1: a sum is at most a bound.
-fn at_most(part: &[u32], at: usize, counts: &[u32; STATES]) -> Step
-    requires part { ⌜ StepFrom (now part) at × (getD (now part) at 0 ≡ 1) ⌝ }
-    requires counts { ⌜ Counts (now counts) ⌝ }
-    ensures { λ r. ⌜ SumSays (now (part .entry)) at (now (counts .entry)) (r .next) (r .holds) ⌝ }
+// A step of kind 1: a sum is at most the bound after it.
+fn at_most(part: &[u32], sum: Sum) -> Step
+    requires { ⌜ sum .next < length (now part) ⌝ }
+    ensures { λ r. ⌜ AtMost (now (part .entry)) (sum .next) (sum .total) (r .next) (r .holds) ⌝ }
 {
-    let sum = sum_at(part, at + 1, counts);
     let end = sum.next;
     let total = sum.total;
     let bound = bits::signed(part[end]);
@@ -81,13 +79,11 @@ fn at_most(part: &[u32], at: usize, counts: &[u32; STATES]) -> Step
     }
 }
 
-// A step of kind 2: a sum leaves a remainder on division by a modulus.
-fn remainder(part: &[u32], at: usize, counts: &[u32; STATES]) -> Step
-    requires part { ⌜ StepFrom (now part) at × (getD (now part) at 0 ≡ 2) ⌝ }
-    requires counts { ⌜ Counts (now counts) ⌝ }
-    ensures { λ r. ⌜ SumSays (now (part .entry)) at (now (counts .entry)) (r .next) (r .holds) ⌝ }
+// A step of kind 2: a sum leaves a remainder on division by a modulus, which are after it.
+fn remainder(part: &[u32], sum: Sum) -> Step
+    requires { ⌜ sum .next + 1 < length (now part) ⌝ }
+    ensures { λ r. ⌜ Leaves (now (part .entry)) (sum .next) (sum .total) (r .next) (r .holds) ⌝ }
 {
-    let sum = sum_at(part, at + 1, counts);
     let end = sum.next;
     let rest = bits::remainder(sum.total, part[end]);
     Step {
@@ -112,8 +108,8 @@ fn step_at(part: &[u32], at: usize, counts: &[u32; STATES], truths: u64) -> Step
 {
     let kind = part[at];
     match kind {
-        AT_MOST => at_most(part, at, counts),
-        REMAINDER => remainder(part, at, counts),
+        AT_MOST => at_most(part, sum_at(part, at + 1, counts)),
+        REMAINDER => remainder(part, sum_at(part, at + 1, counts)),
         NOT => Step {
             holds: !truth_at(part, at + 1, truths),
             next: at + 2,

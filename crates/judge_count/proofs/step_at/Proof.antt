@@ -1,11 +1,12 @@
--- `judge_count::step_at` meets its contract.
+-- `judge_count::step_at` meets its contract: by its kind a step says what its words say, and it has one of the five kinds.
 use mathlib.Core.Path.{refl}
 use mathlib.Core.Bool.{_&&_, _||_}
 use Prim.Native.Nat.{_+_, _<_}
 use native.Mathlib.Omega.{arith}
 use borrow.Author.Needs.{needs}
 use lib.ListN.{length}
-use Rattle.judge_count.proofs.StepLaws.{said, kind-there, no-kind, not-found, pair-found}
+use Rattle.judge_count.proofs.SumLaws.{marks-there}
+use Rattle.judge_count.proofs.StepLaws.{said, kind-there, no-kind, sum-room, at-most-found, remainder-found, not-found, pair-found}
 use Rattle.judge_count.proofs.step_at.Statement.{statement}
 use Rattle.judge_count.proofs.step_at.Tie as tie
 
@@ -25,8 +26,18 @@ step-at-spec =
     (tie.spec
     (λ c. omega (arith, kind-there (c .before .pre .0)))
     (λ c. kind-there (c .before .before .pre .0))
-    (λ c κs. search needs)
-    (λ c κs. search needs)
+    (λ c. omega (arith, marks-there (said 1 (c .match .keys1) (c .before .before .before .pre .0) .sum)))
+    (λ c κs. (said 1 (c .match .keys1) (c .before .before .before .pre .0) .sum, c .before .before .before .pre .1))
+    (λ c κs.
+    let start = c .before .before .before .before in
+    let a = said 1 (c .before .match .keys1) (start .pre .0) in
+    omega (arith, sum-room (c .sum-at .ensures) (start .pre .1) (a .sum) (a .rest)))
+    (λ c. omega (arith, marks-there (said 2 (c .match .keys2) (c .before .before .before .pre .0) .sum)))
+    (λ c κs. (said 2 (c .match .keys2) (c .before .before .before .pre .0) .sum, c .before .before .before .pre .1))
+    (λ c κs.
+    let start = c .before .before .before .before in
+    let a = said 2 (c .before .match .keys2) (start .pre .0) in
+    sum-room (c .sum-at2 .ensures) (start .pre .1) (a .sum) (a .rest))
     (λ c. omega (arith, not-room c))
     (λ c κs. not-room c)
     (λ c. omega (arith, not-room (c .before)))
@@ -40,8 +51,9 @@ step-at-spec =
     (λ c. omega (arith, or-room (c .before)))
     (λ c κs. or-room (c .before))
     (λ c. omega (arith, or-room (c .before .before)))
-    (λ c earlier t. c .at-most .ensures earlier)
-    (λ c earlier t. c .remainder .ensures earlier)
+    (λ c earlier t h w o. at-most-found (c .before .sum-at .ensures) o earlier (c .at-most .ensures) (said 1 (c .before .before .match .keys1) h))
+    (λ c earlier t h w o.
+    remainder-found (c .before .sum-at2 .ensures) o earlier (c .remainder .ensures) (said 2 (c .before .before .match .keys2) h))
     (λ c earlier t h w o. not-found t w (c .truth-at .ensures) (said 3 (c .before .match .keys3) h))
     (λ c earlier t h w o. pair-found t w _&&_ (c .before .truth-at2 .ensures) (c .truth-at3 .ensures)
     (said 4 (c .before .before .match .keys4) h))
