@@ -3,24 +3,22 @@ use mathlib.Core.Path.{_≡_, refl, sym, ap, _∙_}
 use mathlib.Core.List.{List, _++_}
 use Prim.Native.Nat.{ℕ, _*_, _/_, _≤_, _<_}
 use native.Mathlib.Omega.{arith}
-use lib.Dec.{leb}
 use lib.ListN.{length, getD, take, drop}
 use lib.Seq.{length-take-le, drop-at}
-use borrow.Author.Tests.{leb-true, leb-false, le-leb, lt-leb}
+use borrow.Author.Tests.{le-leb, lt-leb}
 use Rattle.model.specs.declared.Answer.{Answer}
 use Rattle.model.specs.declared.Answer.the-variants.{Count, Error}
 use Rattle.model.specs.declared.Refusal.{Refusal}
 use Rattle.model.specs.Answers.{Said, refusal, said-refusal, said, Checked, passes, refuses, _>>=_, _>>_, require, room-for, buffer-after}
+use Rattle.model.specs.Answers.{looks-in}
 use Rattle.model.specs.Tree.{Element, size, tree-of}
 use Rattle.model.specs.Sheet.{Sheet, sheet-of}
 use Rattle.model.specs.Run.{items, run, verdict}
 use Rattle.model.specs.Calls.{tree-said, sheet-said, judge, verdict-of, judge-said, first-states, states-after, judge-states}
-use Rattle.model.proofs.Tests.{Told, yea, nay, told}
 use Rattle.model.proofs.SheetCode.{sheet-passes}
 use Rattle.model.proofs.TreeLaws.{length-words, tree-passes}
-use Rattle.model.specs.Answers.{looks-in}
 use Rattle.model.proofs.Demand2.{looks-bound}
-use Rattle.model.specs.Index.{passed, sheet-in, rules-in, index-words, index-after, Indexed}
+use Rattle.model.specs.Index.{passed, sheet-in, index-words, index-after, Indexed}
 use Rattle.model.proofs.PassedLaws.{passes-in, tags-word, rules-word}
 use Rattle.model.proofs.Answered as answered
 use Rattle.judge_run.specs.Run.{Form, verdict-on, states-on}
@@ -63,33 +61,28 @@ module _ (sheet tree states : List ℕ) where
   abbrev Answers : Said → List ℕ → Type 0
   Answers x out = (x ≡ judge-said sheet tree states) × (out ≡ judge-states sheet tree states)
 
-  pub at-sheet : {n i : ℕ} → sheet-of sheet ≡ refuses n i → Answers (refusal n i) states
+  at-sheet : {n i : ℕ} → sheet-of sheet ≡ refuses n i → Answers (refusal n i) states
   unfolding judge-said judge-states judge verdict-of states-after _>>=_
   at-sheet e = rw e (refl, refl)
 
   module _ {s : Sheet} (ok : sheet-of sheet ≡ passes s) where
-    pub at-tree : {n i : ℕ} → tree-of (s .tags) tree ≡ refuses n i → Answers (refusal n i) states
+    at-tree : {n i : ℕ} → tree-of (s .tags) tree ≡ refuses n i → Answers (refusal n i) states
     unfolding judge-said judge-states judge verdict-of states-after _>>=_
     at-tree e = rw (ok, e) (refl, refl)
 
     module _ {e : Element} (tok : tree-of (s .tags) tree ≡ passes e) where
-      pub at-room : length states < size e → Answers (refusal 22 (size e)) states
+      at-room : length states < size e → Answers (refusal 22 (size e)) states
       unfolding judge-said judge-states judge verdict-of states-after _>>=_ _>>_ require room-for
       at-room h = rw (ok, tok, lt-leb _ _ h) (refl, refl)
 
-      pub at-nodes : size e ≤ length states → Answers (verdict (s .final) (run (s .rules) (items tree)))
+      at-nodes : size e ≤ length states → Answers (verdict (s .final) (run (s .rules) (items tree)))
           (first-states (size e) (run (s .rules) (items tree)) ++ drop (size e) states)
       unfolding judge-said judge-states judge verdict-of states-after _>>=_ _>>_ require room-for
       at-nodes h = rw (ok, tok, le-leb _ _ h) (refl, refl)
 
-  -- at most 2 × nodes × rules looks, refused or not
-  abbrev Few : Type 0
-  Few = looks-in (judge-said sheet tree states) ≤ 2 * (length tree / 4) * getD sheet 5 0
-
-  few-refused : {n i : ℕ} → Answers (refusal n i) states → Few
-  few-refused (e, _) = rw (← e) (omega arith)
-
-  few-judged : {s : Sheet} {e : Element} → sheet-of sheet ≡ passes s → tree-of (s .tags) tree ≡ passes e → size e ≤ length states → Few
+  -- at most 2 × nodes × rules looks
+  few-judged : {s : Sheet} {e : Element} → sheet-of sheet ≡ passes s → tree-of (s .tags) tree ≡ passes e → size e ≤ length states
+      → looks-in (judge-said sheet tree states) ≤ 2 * (length tree / 4) * getD sheet 5 0
   unfolding passed
   few-judged {s} {e} ok tok h =
       let tags : s .tags ≤ 64 = sheet-passes sheet s .0 ok .1 .few-tags in
@@ -98,35 +91,20 @@ module _ (sheet tree states : List ℕ) where
       let rules : getD sheet 5 0 ≡ length (s .rules) = rules-word (passes-in ok .0) ∙ ap (λ c. length (passed c .rules)) ok in
       rw (nodes, rules) (looks-bound sheet tree states ok tok h)
 
-  pub few-looks : Few
-  few-looks = by-sheet (sheet-of sheet) refl
-    where
-      by-room : (s : Sheet) → sheet-of sheet ≡ passes s → (e : Element) → tree-of (s .tags) tree ≡ passes e → Told
-          (leb (size e) (length states)) → Few
-      by-room s ok e tok (yea h) = few-judged ok tok (leb-true _ _ h)
-      by-room s ok e tok (nay h) = few-refused (at-room ok tok (leb-false _ _ h))
-
-      by-tree : (s : Sheet) → sheet-of sheet ≡ passes s → (c : Checked Element) → tree-of (s .tags) tree ≡ c → Few
-      by-tree s ok (passes e) tok = by-room s ok e tok (told (leb (size e) (length states)))
-      by-tree s ok (refuses n i) e = few-refused (at-tree ok e)
-
-      by-sheet : (c : Checked Sheet) → sheet-of sheet ≡ c → Few
-      by-sheet (passes s) ok = by-tree s ok (tree-of (s .tags) tree) refl
-      by-sheet (refuses n i) e = few-refused (at-sheet e)
-
   -- ---- the call's three promises, of what is said and written
 
   abbrev Promises : Said → List ℕ → Type 0
   Promises x out = (x ≡ judge-said sheet tree states) ×
       ((out ≡ judge-states sheet tree states) × (looks-in x ≤ 2 * (length tree / 4) * getD sheet 5 0))
 
-  promised : {x y : Said} {out : List ℕ} → x ≡ y → Answers y out → Promises x out
-  promised e (a, b) = let f = e ∙ a in (f, (b, rw f few-looks))
+  -- a refusal says no looks
+  refused : {x : Said} {n i : ℕ} → x ≡ refusal n i → Answers (refusal n i) states → Promises x states
+  refused e (a, b) = (e ∙ a, (b, rw e (omega arith)))
 
   -- the sheet's check
   pub sheet-refused : {r : Answer} {x : Refusal} → said r ≡ sheet-said sheet → r ≡ Error x → Promises (said-refusal x) states
   unfolding sheet-said
-  sheet-refused e c = let (n, i, p, f) = answered.refused (λ s. length sheet) (sheet-of sheet) e c in promised f (at-sheet p)
+  sheet-refused e c = let (n, i, p, f) = answered.refused (λ s. length sheet) (sheet-of sheet) e c in refused f (at-sheet p)
 
   module _ {index : List ℕ} (h : Indexed sheet index) where
     -- the tree's
@@ -134,16 +112,19 @@ module _ (sheet tree states : List ℕ) where
         (said-refusal x) states
     tree-refused eg e c =
         let (i, p, f) = answered.tree-refused (getD sheet 4 0) tree (rw eg at e) c in
-        promised f (at-tree (h .sheet .as-sheet) (by-tags tree h ∙ p))
+        refused f (at-tree (h .sheet .as-sheet) (by-tags tree h ∙ p))
 
     module _ {n : ℕ} (f : Form sheet tree n) where
       -- the room for the states
       pub room-refused : length states < n → Promises (refusal 22 n) states
-      room-refused l = rw (← f .nodes) (promised refl (at-room (h .sheet .as-sheet) (f .as-tree) (rw (← f .nodes) at l)))
+      room-refused l = rw (← f .nodes) (refused refl (at-room (h .sheet .as-sheet) (f .as-tree) (rw (← f .nodes) at l)))
 
       -- the nodes judged, with their state words in the first n
       pub nodes-judged : n ≤ length states → {x : Said} {out : List ℕ} → x ≡ verdict-on sheet tree → out ≡ states-on sheet tree
           (take n states)
           → Promises x (out ++ drop n states)
       nodes-judged l e eo =
-          promised e (rw (eo, length-take-le n states l, ← f .nodes) (at-nodes (h .sheet .as-sheet) (f .as-tree) (rw (← f .nodes) at l)))
+          let enough : size (f .form) ≤ length states = rw (← f .nodes) at l in
+          let (a, b) = at-nodes (h .sheet .as-sheet) (f .as-tree) enough in
+          let few = few-judged (h .sheet .as-sheet) (f .as-tree) enough in
+          (e ∙ a, (rw (eo, length-take-le n states l, ← f .nodes) b, rw (e ∙ a) few))
