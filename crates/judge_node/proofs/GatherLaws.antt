@@ -9,16 +9,14 @@ use native.Mathlib.Omega.{arith}
 use lib.Dec.{eqb}
 use lib.ListN.{length, getD, take, set, length-set}
 use lib.Seq.{take-suc-set}
-use mir.Syntax.{w64}
-use mir.Val.{Fits}
 use Rattle.model.specs.Lists.{has}
 use Rattle.model.specs.Tree.{size-at}
 use Rattle.model.proofs.Tests.{eqb-false}
-use Rattle.judge_node.specs.Node.{Shaped, words-between}
+use Rattle.judge_node.specs.Node.{Sized, Shaped, words-between}
 use Rattle.judge_node.specs.Judging.{Gathered}
 use Rattle.judge_node.specs.declared.Children.{Children}
 use Rattle.judge_node.specs.declared.Children.the-variants.{Stateless, Number}
-use Rattle.judge_node.proofs.NodeLaws.{words-done, words-more}
+use Rattle.judge_node.proofs.NodeLaws.{sized, words-done, words-more}
 
 -- the front of a list that is filled, with one word more
 take-stored : (l : List ℕ) (n x : ℕ) → n < length l → take (n + 1) (set l n x) ≡ take n l ++ (x ∷ [])
@@ -40,44 +38,33 @@ pub gather-none : (tree states : List ℕ) (first end : ℕ) (words : List ℕ) 
 unfolding has
 gather-none tree states first end words = record { long = refl; few = (omega arith, omega arith); rest = refl; full = refl }
 
-module _ {tree states : List ℕ} {first end room : ℕ} {words : List ℕ} {n at : ℕ} (g : Gathering tree states first end room words n at)
-    (t : Shaped tree (length states)) where
+module _ {tree states : List ℕ} {first end room : ℕ} {words : List ℕ} {n at : ℕ} (g : Gathering tree states first end room words n at) where
   pub gather-done : end ≤ at → Gathered (Number n) (words-between tree states first end) words
   gather-done h =
-      let e : take n words ≡ words-between tree states first end = sym (append-nil (take n words)) ∙ rw (words-done states t refl at end h)
+      let e : take n words ≡ words-between tree states first end = sym (append-nil (take n words)) ∙ rw (words-done tree states at end h)
       at (g .rest) in
       (e, omega (arith, g .few, g .long), ap (λ (l : List ℕ). has l 0) (sym e) ∙ g .full)
 
-  module _ (inside : at < end) (whole : end ≤ length states) where
+  module _ (t : Shaped tree (length states)) (inside : at < end) (whole : end ≤ length states) where
     pub gather-zero : getD states at 0 ≡ 0 → has (words-between tree states first end) 0 ≡ true
     unfolding has
     gather-zero z =
         sym (ap (λ (l : List ℕ). has l 0) (g .rest)) ∙ has-append (take n words) (words-between tree states at end) 0
-        ∙ rw (words-more states t refl at end inside whole, z) (or-true (has (take n words) 0))
+        ∙ rw (words-more states at end t (sized (t .sizes) (omega (arith, t .long)) refl) inside whole, z) (or-true (has (take n words) 0))
 
-    -- the next child is after this one
-    module _ {z : ℕ} (ez : z ≡ size-at tree at) where
-      pub next-fits : Fits w64 (at + z)
-      next-fits = record { fits = omega (arith, t .sizes at (omega arith), t .few) }
-
-      pub next-nearer : end - (at + z) < end - at
-      next-nearer = omega (arith, t .sizes at (omega arith))
-
-    pub gather-more : {z : ℕ} → z ≡ size-at tree at → getD states at 0 ≢ 0 → length states ≤ room
+    pub gather-more : {z : ℕ} → Sized tree at z → getD states at 0 ≢ 0 → length states ≤ room
         → Gathering tree states first end room (set words n (getD states at 0)) (n + 1) (at + z)
     unfolding has
-    gather-more {z} ez nz fits =
-        let (some, _) = t .sizes at (omega arith) in
+    gather-more {z} here nz fits =
         let x = getD states at 0 in
         let e : take (n + 1) (set words n x) ≡ take n words ++ (x ∷ []) = take-stored words n x (omega (arith, g .few, g .long)) in
         record {
           long = length-set words n x ∙ g .long;
-          few = (omega (arith, g .few), omega (arith, g .few));
+          few = omega (arith, g .few, here .some);
           rest = rw (
             e,
             append-assoc (take n words) (x ∷ []) (words-between tree states (at + z) end),
-            ez,
-            ← words-more states t refl at end inside whole,
+            ← words-more states at end t here inside whole,
           ) (g .rest);
           full = rw e (has-append (take n words) (x ∷ []) 0 ∙ rw (g .full, eqb-false (λ k. nz (sym k))));
         }

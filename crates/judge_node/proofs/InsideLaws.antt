@@ -8,19 +8,15 @@ use Prim.Native.Nat.{ℕ, zero, suc, _+_, _-_, _*_, _^_, _≤_, _<_}
 use native.Mathlib.Omega.{arith}
 use lib.Dec.{eqb, eqb·zero-suc}
 use lib.ListN.{length, getD, take, drop}
-use lib.Seq.{length-take-le}
 use borrow.Author.Tests.{lt-ltb, le-ltb}
-use mir.Syntax.{w64}
-use mir.Val.{Fits}
 use Rattle.model.specs.Lists.{has, only}
 use Rattle.model.specs.Tree.{symbol-at, size-at, text-symbol, symbol-of}
 use Rattle.model.specs.Sheet.{Rule, one, two, three, mask, bit}
-use Rattle.model.specs.Run.{at-tag, text-targets, content-targets, element-targets, kind, of-kind, unless-one, unless-none, element-looks}
+use Rattle.model.specs.Run.{at-tag, text-targets, content-targets, element-targets, element-looks}
 use Rattle.model.specs.Run.{Item, items, child-words, child-states}
-use Rattle.model.specs.Index.{rules-in, Indexed}
+use Rattle.model.specs.Index.{rules-in}
 use Rattle.model.proofs.Tests.{never}
 use Rattle.model.proofs.SymbolLaws.{text-said, tag-said, nothing-said}
-use Rattle.model.proofs.PassedLaws.{in-range}
 use Rattle.symbols.specs.Meaning.{meaning}
 use Rattle.symbols.specs.declared.Symbol.{Symbol}
 use Rattle.symbols.specs.declared.Symbol.the-variants.{Tag, Text, Nothing}
@@ -28,17 +24,18 @@ use Rattle.symbols.proofs.MeaningLaws.{means}
 use Rattle.bits.specs.Stands.{Stands}
 use Rattle.bits.proofs.SetLaws.{none-stands, stands-none, stands-some, gathers-none, gathers-more, gathers-all}
 use Rattle.judge_order.specs.Order.{StateWords, states-of}
-use Rattle.judge_rules.specs.Rules.{RulesOf, TagReaches}
+use Rattle.judge_rules.specs.Rules.{RulesOf, at-tag-with}
 use Rattle.judge_rules.specs.Found.{Finds, FindsContent}
 use Rattle.judge_rules.specs.declared.numbers.Rules.{Rules}
 use Rattle.judge_rules.specs.declared.contents.Found.{Found}
-use Rattle.judge_node.specs.Node.{Shaped, Small, words-between, words-inside, lone-states, inside-targets, inside-looks, node-targets}
+use Rattle.judge_rules.proofs.TargetLaws.{tags-with}
+use Rattle.judge_node.specs.Node.{Sized, Small, words-between, words-inside, lone-states, inside-targets, inside-looks, node-targets}
 use Rattle.judge_node.specs.Node.{node-looks}
 use Rattle.judge_node.specs.Judging.{Gathered, Judging, FindsInside, TagFinds, FindsNode}
 use Rattle.judge_node.specs.declared.At.{At}
 use Rattle.judge_node.specs.declared.Children.{Children}
 use Rattle.judge_node.specs.declared.Children.the-variants.{Stateless, Number}
-use Rattle.judge_node.proofs.NodeLaws.{words-done, words-more}
+use Rattle.judge_node.proofs.NodeLaws.{sized, words-done, words-more}
 use Rattle.judge_node.proofs.GatherLaws.{all-gathered, none-gathered}
 
 -- ---- the children's state words
@@ -115,89 +112,72 @@ module _ {s index : List ℕ} {at : At} {tree states words : List ℕ} (j : Judg
   abbrev R : List Rule
   R = rules-in s
 
-  module _ {size : ℕ} (e : size ≡ size-at tree i) where
-    pub end-within : i + size ≤ length states
-    end-within = omega (arith, j .shaped .sizes i (j .node))
+  pub child-small : getD states (i + 1) 0 ≤ 64
+  child-small = small-at states (i + 1) (j .small)
 
-    pub end-fits : Fits w64 (i + size)
-    end-fits = record { fits = omega (arith, end-within, j .shaped .few) }
-
+  module _ {size : ℕ} (whole : Sized tree i size) where
     -- no child
     pub leaf-inside : size ≡ 1 → FindsInside R tree states i (at .nothing)
     unfolding inside-targets inside-looks child-words child-states
     leaf-inside alone =
-        let none : i + size-at tree i - (i + 1) ≡ 0 = omega arith in
+        let none : i + size-at tree i - (i + 1) ≡ 0 = omega (arith, whole .is) in
         rw none (j .nothing)
 
     -- where an element is more than one node, there is a first child
-    module _ (more : size ≢ 1) where
-      some-inside : i + 1 < i + size
-      some-inside = omega (arith, j .shaped .sizes i (j .node))
+    module _ (more : size ≢ 1) {z : ℕ} (child : Sized tree (i + 1) z) where
+      end-within : i + size ≤ length states
+      end-within = omega (arith, whole .within, j .shaped .long)
 
-      pub child-there : i + 1 < length states
-      child-there = omega (arith, some-inside, end-within)
+      first-word : words-between tree states (i + 1) (i + size) ≡ getD states (i + 1) 0 ∷ words-between tree states (i + 1 + z) (i + size)
+      first-word = words-more states (i + 1) (i + size) (j .shaped) child (omega (arith, whole .some)) end-within
 
-      child-within : i + 1 + size-at tree (i + 1) ≤ length states
-      child-within = j .shaped .sizes (i + 1) child-there .1
+      -- one child
+      pub lone-inside : i + size ≤ i + 1 + z → {f : Found} → Finds (2 ^ 42) f (lone-states (getD states (i + 1) 0)) 0
+          → FindsInside R tree states i f
+      unfolding inside-targets inside-looks content-targets child-states
+      lone-inside only f = rw (← whole .is, first-word, words-done tree states (i + 1 + z) (i + size) only) (go (getD states (i + 1) 0) f)
+        where
+          go : (word : ℕ) {f : Found} → Finds (2 ^ 42) f (lone-states word) 0
+              → Finds (2 ^ 42) f (inside-targets R (child-states (word ∷ []))) (inside-looks R (child-states (word ∷ [])))
+          go zero f = f
+          go (suc q) f = f
 
-      pub child-room : 4 * (i + 1 + 1) ≤ length tree
-      child-room = omega (arith, child-there, j .shaped .long)
-
-      pub child-small : getD states (i + 1) 0 ≤ 64
-      child-small = small-at states (i + 1) (j .small)
-
-      module _ {z : ℕ} (ez : z ≡ size-at tree (i + 1)) where
-        pub child-fits : Fits w64 (i + 1 + z)
-        child-fits = record { fits = omega (arith, child-within, j .shaped .few) }
-
-        -- one child
-        pub lone-inside : i + size ≤ i + 1 + z → {f : Found} → Finds (2 ^ 42) f
-            (lone-states (getD states (i + 1) 0)) 0 → FindsInside R tree states i f
-        unfolding inside-targets inside-looks content-targets child-states
-        lone-inside only f =
-            rw (← e, words-more states (j .shaped) refl (i + 1) (i + size) some-inside end-within)
-            (rw (words-done states (j .shaped) refl (i + 1 + size-at tree (i + 1)) (i + size) (omega arith)) (go (getD states (i + 1) 0) f))
-          where
-            go : (word : ℕ) {f : Found} → Finds (2 ^ 42) f (lone-states word) 0
-                → Finds (2 ^ 42) f (inside-targets R (child-states (word ∷ []))) (inside-looks R (child-states (word ∷ [])))
-            go zero f = f
-            go (suc q) f = f
-
-        -- several children
-        several-words : i + 1 + z < i + size → length (words-between tree states (i + 1) (i + size)) ≢ 1
-        several-words several =
-            let next = i + 1 + size-at tree (i + 1) in
-            rw (
-              words-more states (j .shaped) refl (i + 1) (i + size) some-inside end-within,
-              words-more states (j .shaped) refl next (i + size) (omega arith) end-within,
-            )
-            (λ e. absurd (omega arith))
+      -- several children
+      several-words : i + 1 + z < i + size → length (words-between tree states (i + 1) (i + size)) ≢ 1
+      several-words several =
+          let next = i + 1 + z in
+          let here : Sized tree next (size-at tree next) = sized (j .shaped .sizes) (omega (arith, whole .within)) refl in
+          rw (first-word, words-more states next (i + size) (j .shaped) here several end-within) (λ e. absurd (omega arith))
 
     module _ {children : Children} (left : List ℕ) (got : Gathered children (words-between tree states (i + 1) (i + size)) left) where
       -- one of them has no state
       pub stateless-inside : children ≡ Stateless → FindsInside R tree states i (record { targets = 0; looks = 0 })
       unfolding inside-targets inside-looks
-      stateless-inside is = rw (← e, states-none (words-between tree states (i + 1) (i + size)) (none-gathered _ left got is)) nothing-found
+      stateless-inside is =
+          rw (← whole .is, states-none (words-between tree states (i + 1) (i + size)) (none-gathered _ left got is)) nothing-found
 
       -- all of them have one
       module _ {n : ℕ} (is : children ≡ Number n) where
         pub gathered-within : n ≤ length left
         gathered-within = all-gathered _ left got is .1
 
-        pub gathered-words : size ≢ 1 → {z : ℕ} → z ≡ size-at tree (i + 1) → i + 1 + z < i + size → StateWords (take n left) ×
+        pub gathered-words : size ≢ 1 → {z : ℕ} → Sized tree (i + 1) z → i + 1 + z < i + size → StateWords (take n left) ×
             (length (take n left) ≢ 1)
-        gathered-words more ez several =
+        gathered-words more child several =
             let (same, _, full) = all-gathered _ left got is in
             let small = words-small (i + size - (i + 1)) 0 (drop (i + 1) (items tree)) (drop (i + 1) states) (j .small) in
             let few = words-few (i + size - (i + 1)) 0 (drop (i + 1) (items tree)) (drop (i + 1) states) in
             let each = each-word (words-between tree states (i + 1) (i + size)) small full in
-            rw same (record { each = each; few = omega (arith, few, end-within, j .shaped .few) }, several-words more ez several)
+            rw same (
+              record { each = each; few = omega (arith, few, whole .within, j .shaped .long, j .shaped .few) },
+              several-words more child several,
+            )
 
         pub several-inside : {f : Found} → FindsContent R (states-of (take n left)) f → FindsInside R tree states i f
         unfolding inside-targets inside-looks
         several-inside f =
             let (same, _, full) = all-gathered _ left got is in
-            rw (← e, states-some (words-between tree states (i + 1) (i + size)) full) (rw same at f)
+            rw (← whole .is, states-some (words-between tree states (i + 1) (i + size)) full) (rw same at f)
 
 -- ---- an element, by what its content reaches
 
@@ -209,22 +189,7 @@ no-tag a (one k q ∷ R) = no-tag a R
 no-tag a (two b c q ∷ R) = rw (and-false (eqb b a)) (no-tag a R)
 no-tag a (three o c q ∷ R) = no-tag a R
 
-of-kind-few : (k : ℕ) (R : List Rule) → of-kind k R ≤ length R
-unfolding of-kind
-of-kind-few k [] = omega arith
-of-kind-few k (r ∷ R) = go (eqb (kind r) k) (of-kind-few k R)
-  where
-    go : (b : Bool) → of-kind k R ≤ length R → cond b 1 0 + of-kind k R ≤ suc (length R)
-    go true h = omega arith
-    go false h = omega arith
-
-module _ {s index : List ℕ} (h : Indexed s index) {r : Rules} (k : RulesOf s r) where
-  kind-few : (n : ℕ) → of-kind n (rules-in s) ≤ 1024
-  kind-few n = omega (arith, of-kind-few n (rules-in s), in-range (h .sheet) .few-rules)
-
-  pub twos-fit : {n : ℕ} → n ≤ 2 ^ 42 → Fits w64 (n + r .twos)
-  twos-fit l = record { fits = omega (arith, k .tags, kind-few 2) }
-
+module _ {s index : List ℕ} {r : Rules} (k : RulesOf s index r) where
   -- the content reaches no state
   pub tagged-unreached : (tag : ℕ) {inside : Found} → inside .targets ≡ 0 → TagFinds (rules-in s) tag inside
       (record { targets = 0; looks = inside .looks })
@@ -236,15 +201,16 @@ module _ {s index : List ℕ} (h : Indexed s index) {r : Rules} (k : RulesOf s r
   }
 
   -- it reaches some
-  pub tagged-reached : {tag targets : ℕ} {inside : Found} → inside .targets ≢ 0 → TagReaches (rules-in s) tag (inside .targets) targets
+  pub tagged-reached : {tag targets : ℕ} {inside : Found} → inside .targets ≢ 0
+      → Stands targets (flatMap (at-tag-with tag (inside .targets)) (rules-in s))
       → TagFinds (rules-in s) tag inside (record { targets = targets; looks = inside .looks + r .twos })
-  tagged-reached some-state reach = record {
+  tagged-reached {tag} some-state reach = record {
     found = λ l n f.
         let (x, xs, e) = stands-some (f .reached) some-state in
         record {
-          reached = reach .reached l (f .reached);
+          reached = rw (tags-with tag (f .reached) (rules-in s)) at reach;
           number = rw e (omega (arith, f .number, k .tags));
-          few = omega (arith, f .few, k .tags, kind-few 2);
+          few = omega (arith, f .few, k .few, k .ruled .few);
         };
   }
 
@@ -266,7 +232,7 @@ module _ {s index : List ℕ} {at : At} {tree states words : List ℕ} (j : Judg
           let (e, low, _, _) = text-said symbol (means told is) in
           let kind : symbol - 64 ≡ k = omega arith in
           rw (lt-ltb 64 symbol (omega arith), kind)
-          (record { reached = r; number = j .rules .texts; few = omega (arith, j .rules .texts, kind-few (j .indexed) (j .rules) 1) })
+          (record { reached = r; number = j .rules .texts; few = omega (arith, j .rules .few, j .rules .ruled .few) })
 
     module _ {a : ℕ} (is : r ≡ Tag a) where
       tag-is : (symbol ≡ a) × (1 ≤ a) × (a ≤ 64)

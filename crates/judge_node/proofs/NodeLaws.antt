@@ -16,7 +16,7 @@ use Rattle.model.specs.Run.{text-targets, element-targets, of-kind, element-loo
 use Rattle.model.specs.Run.{judge-text, judge-element, judge-node}
 use Rattle.model.specs.Answers.{passes}
 use Rattle.model.proofs.TreeLaws.{length-words, tree-passes}
-use Rattle.judge_node.specs.Node.{Shaped, words-between, words-inside, node-targets, node-looks}
+use Rattle.judge_node.specs.Node.{Sizes, Sized, Shaped, words-between, words-inside, node-targets, node-looks}
 
 -- ---- nodes by their words
 
@@ -90,10 +90,16 @@ tree-shaped {g} {t} {e} few p =
       long = long;
       few = o .few;
       symbols = λ i h. (rw (items-at t i (omega arith)) at (within-drop i (items t) all)) .0;
-      sizes = λ i h.
-          let (_, a, b, _) = rw (items-at t i (omega arith)) at (within-drop i (items t) all) in
-          (a, omega (arith, b, length-drop (i + 1) (items t), length-items (size e) t long));
+      sizes = record {
+        each = λ i h.
+            let (_, a, b, _) = rw (items-at t i h) at (within-drop i (items t) all) in
+            (a, omega (arith, b, length-drop (i + 1) (items t), length-items (size e) t long));
+      };
     }
+
+-- the size of a node
+pub sized : {tree : List ℕ} {i size : ℕ} → Sizes tree → 4 * (i + 1) ≤ length tree → size ≡ size-at tree i → Sized tree i size
+sized {i = i} all h e = let (some, within) = all .each i h in record { is = e; some = omega arith; within = rw e within }
 
 -- ---- the children of a node
 
@@ -117,24 +123,21 @@ jump (suc n) (suc k) [] st = sym (no-items (suc n - suc k) (drop (suc k) st))
 jump (suc n) (suc k) (x ∷ xs) [] = sym (no-words (suc n - suc k) (drop k xs))
 jump (suc n) (suc k) (x ∷ xs) (s ∷ st) = let e : suc n - suc k ≡ n - k = omega arith in rw e (jump n k xs st)
 
-module _ {tree : List ℕ} (states : List ℕ) {n : ℕ} (t : Shaped tree n) (room : length states ≡ n) (first end : ℕ) where
-  pub words-done : end ≤ first → words-between tree states first end ≡ []
-  unfolding child-words
-  words-done h = let e : end - first ≡ 0 = omega arith in rw e
+pub words-done : (tree states : List ℕ) (first end : ℕ) → end ≤ first → words-between tree states first end ≡ []
+unfolding child-words
+words-done tree states first end h = let e : end - first ≡ 0 = omega arith in rw e
 
-  pub words-more : first < end → end ≤ n
-      → words-between tree states first end ≡ getD states first 0 ∷ words-between tree states (first + size-at tree first) end
-  unfolding child-words
-  words-more h k =
-      let z = size-at tree first in
-      let (some, _) = t .sizes first (omega arith) in
-      let e : end - first ≡ suc (end - first - 1) = omega arith in
-      let f : end - first - 1 - (z - 1) ≡ end - (first + z) = omega arith in
-      let g : first + 1 + (z - 1) ≡ first + z = omega arith in
-      rw (e, items-at tree first (omega (arith, t .long)), drop-cons states first 0 (omega arith), ← add-one first)
-      (ap (λ (l : List ℕ). getD states first 0 ∷ l)
-      (jump (end - first - 1) (z - 1) (drop (first + 1) (items tree)) (drop (first + 1) states)
-      ∙ rw (drop-drop (z - 1) (first + 1) (items tree), drop-drop (z - 1) (first + 1) states, f, g)))
+pub words-more : {tree : List ℕ} (states : List ℕ) (first end : ℕ) {z : ℕ} → Shaped tree (length states) → Sized tree first z → first < end
+    → end ≤ length states → words-between tree states first end ≡ getD states first 0 ∷ words-between tree states (first + z) end
+unfolding child-words
+words-more {tree} states first end {z} t sized h k =
+    let e : end - first ≡ suc (end - first - 1) = omega arith in
+    let f : end - first - 1 - (z - 1) ≡ end - (first + z) = omega (arith, sized .some) in
+    let g : first + 1 + (z - 1) ≡ first + z = omega (arith, sized .some) in
+    rw (e, items-at tree first (omega (arith, t .long)), drop-cons states first 0 (omega arith), ← add-one first, ← sized .is)
+    (ap (λ (l : List ℕ). getD states first 0 ∷ l)
+    (jump (end - first - 1) (z - 1) (drop (first + 1) (items tree)) (drop (first + 1) states)
+    ∙ rw (drop-drop (z - 1) (first + 1) (items tree), drop-drop (z - 1) (first + 1) states, f, g)))
 
 -- ---- what the run makes of a node
 

@@ -7,7 +7,7 @@ use lib.ListN.{length, take, drop}
 use Rattle.model.specs.Lists.{has}
 use Rattle.model.specs.Sheet.{Rule}
 use Rattle.model.specs.Run.{at-tag, of-kind, unless-none, child-states}
-use Rattle.model.specs.Index.{rules-in, Indexed}
+use Rattle.model.specs.Index.{rules-in}
 use Rattle.judge_rules.specs.Rules.{RulesOf}
 use Rattle.judge_rules.specs.Found.{Finds, FindsContent}
 use Rattle.judge_rules.specs.declared.contents.Found.{Found}
@@ -24,8 +24,7 @@ Gathered (Number n) all words = (take n words ≡ all) × (n ≤ length words) �
 -- A sheet with its index, the numbers of its rules and what content without children reaches; a tree, in which the nodes after this one
 -- have their state words; and room to gather those of its children.
 pub record Judging (s index : List ℕ) (at : At) (tree states words : List ℕ) : Type 0 where
-  pub indexed : Indexed s index
-  pub rules : RulesOf s (at .rules)
+  pub rules : RulesOf s index (at .rules)
   pub nothing : FindsContent (rules-in s) [] (at .nothing)
   pub shaped : Shaped tree (length states)
   pub node : at .node < length states

@@ -11,12 +11,22 @@ use Rattle.model.specs.Sheet.{Rule}
 use Rattle.model.specs.Run.{text-targets, content-targets, element-targets, of-kind, tries, unless-one, element-looks}
 use Rattle.model.specs.Run.{items, child-words, child-states}
 
--- n nodes, each of them with a symbol of a tag or a text and with what is inside it
+-- each node has a size, and with what is inside it is in the tree
+pub record Sizes (tree : List ℕ) : Type 0 where
+  pub each : (i : ℕ) → 4 * (i + 1) ≤ length tree → (1 ≤ size-at tree i) × (4 * (i + size-at tree i) ≤ length tree)
+
+-- the size of node i
+pub record Sized (tree : List ℕ) (i size : ℕ) : Type 0 where
+  pub is : size ≡ size-at tree i
+  pub some : 1 ≤ size
+  pub within : 4 * (i + size) ≤ length tree
+
+-- n nodes, each of them with a symbol of a tag or a text, and with a size
 pub record Shaped (tree : List ℕ) (n : ℕ) : Type 0 where
   pub long : length tree ≡ 4 * n
   pub few : n ≤ 4096
   pub symbols : (i : ℕ) → i < n → (1 ≤ symbol-at tree i) × (symbol-at tree i ≤ 66)
-  pub sizes : (i : ℕ) → i < n → (1 ≤ size-at tree i) × (i + size-at tree i ≤ n)
+  pub sizes : Sizes tree
 
 -- state words: at most 64 states, and 0
 abbrev pub Small : List ℕ → Type 0

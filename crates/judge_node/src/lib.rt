@@ -1,12 +1,10 @@
 // A node: the states that it reaches, and the looks that it takes.
 ghost use Prim.Native.Nat.{_+_, _*_, _^_, _≤_};
-ghost use mathlib.Core.Path.{_≡_};
 ghost use lib.ListN.{length};
-ghost use Rattle.model.specs.Tree.{size-at};
-ghost use Rattle.model.specs.Index.{rules-in, Indexed};
+ghost use Rattle.model.specs.Index.{rules-in};
 ghost use Rattle.judge_rules.specs.Rules.{RulesOf};
 ghost use Rattle.judge_rules.specs.Found.{Finds};
-ghost use Rattle.judge_node.specs.Node.{Shaped, words-between, lone-states};
+ghost use Rattle.judge_node.specs.Node.{Sizes, Sized, Shaped, words-between, lone-states};
 ghost use Rattle.judge_node.specs.Judging.{Gathered, TagFinds, Judging, FindsInside, FindsNode};
 use judge_rules::Found;
 use judge_rules::Rules;
@@ -33,8 +31,8 @@ pub struct At {
 
 // The number of nodes that node i and what is inside it make.
 fn size_at(tree: &[u32], i: usize) -> usize
-    requires { ⌜ 4 * (i + 1) ≤ length (now tree) ⌝ }
-    ensures { λ r. ⌜ r ≡ size-at (now (tree .entry)) i ⌝ }
+    requires { ⌜ Sizes (now tree) × (4 * (i + 1) ≤ length (now tree)) ⌝ }
+    ensures { λ r. ⌜ Sized (now (tree .entry)) i r ⌝ }
 {
     wide(tree[NODE_WORDS * i + 1])
 }
@@ -109,7 +107,7 @@ fn inside(
 
 // What content reaches in an element with a tag: the kind-two rules are looked at where the content reaches a state.
 fn tagged(sheet: &[u32], index: &[u32], rules: Rules, tag: u32, inside: Found) -> Found
-    requires index { ⌜ Indexed (now sheet) (now index) × RulesOf (now sheet) rules ⌝ }
+    requires index { ⌜ RulesOf (now sheet) (now index) rules ⌝ }
     requires tag { ⌜ (1 ≤ tag) × (tag ≤ 64) × (inside .looks ≤ 2 ^ 42) ⌝ }
     ensures { λ f. ⌜ TagFinds (rules-in (now (sheet .entry))) tag inside f ⌝ }
 {

@@ -11,14 +11,14 @@ use mir.Syntax.{w64}
 use mir.Val.{Fits}
 use Rattle.model.specs.Sheet.{Rule, one, two, three, rule-words, mask, bit}
 use Rattle.model.specs.Run.{at-content, content-targets, looks-of, tries, unless-one}
-use Rattle.model.specs.Spans.{RuleAt, Content, content}
-use Rattle.model.specs.Index.{rules-in, nth, key, Indexed}
-use Rattle.model.proofs.PassedLaws.{in-range, few-words}
-use Rattle.model.proofs.RuleWords.{content-words}
+use Rattle.model.specs.Spans.{RuleAt, Content, content, order-part}
+use Rattle.model.specs.Index.{rules-in, nth, key}
+use Rattle.model.proofs.PassedLaws.{few-words}
+use Rattle.model.proofs.RuleWords.{content-words, after-count, target-there}
 use Rattle.model.proofs.IndexLaws.{rule-ends, chain-first, chain-next}
 use Rattle.judge_order.specs.Order.{StateWords, states-of}
 use Rattle.judge_count.specs.Count.{Occurs}
-use Rattle.judge_rules.specs.Rules.{RulesOf, ContentAt, CountedAt, Tries}
+use Rattle.judge_rules.specs.Rules.{Ruled, RulesOf, ContentAt, CountedAt, Tries}
 use Rattle.judge_rules.specs.declared.numbers.Rules.{Rules}
 use Rattle.judge_rules.specs.Found.{Finds, FindsTargets, FindsContent, Counted}
 use Rattle.judge_rules.specs.declared.contents.Found.{Found}
@@ -72,11 +72,22 @@ content-rule : {p a e : ℕ} {s : List ℕ} (x : Rule) → p ≤ 64 → length s
 unfolding key
 content-rule (one k q) few short h z ends = absurd (omega (arith, h .ranges))
 content-rule (two b c q) few short h z ends = absurd (omega arith)
-content-rule {p} (three o c q) few short h z ends =
-    let some = ap length (content-words p o c q) in
+content-rule {p} {a} {e} (three o c q) few short h z ends =
+    let long = ap length (content-words p o c q) in
+    let some : 1 ≤ e = omega arith in
+    let last : e - 1 + 1 ≡ a + length (rule-words p (three o c q)) = omega arith in
     let fields : Content = record { order = o; count = c; target = q } in (
-      omega (arith, some),
-      record { states = p; fields = fields; few-states = few; few-words = short; here = h; ends = omega (arith, some) },
+      some,
+      record {
+        states = p;
+        fields = fields;
+        few-states = few;
+        few-words = short;
+        before = omega (arith, after-count h {c = a + 1 + length (order-part o)} refl);
+        room = target-there h last .0;
+        here = h;
+        ends = last;
+      },
       refl,
     )
 
@@ -93,10 +104,10 @@ pub looks-fit : {R : List Rule} {s w : List ℕ} {at target i targets looks read
     → Fits w64 (looks + (1 + reads))
 looks-fit g t = record { fits = omega (arith, t .few, g .few .1) }
 
-module _ {s index : List ℕ} {rules : ℕ} (h : Indexed s index) (n : rules ≡ length (rules-in s)) {w : List ℕ} where
+module _ {s index : List ℕ} {rules : ℕ} (h : Ruled s index rules) {w : List ℕ} where
   pub trying-begun : {word i : ℕ} → word ≡ getD index 0 0 → i ≡ word → Trying (rules-in s) w i 0 0
   trying-begun {i = i} ew ei =
-      let (all, _) = chain-first h (looked w) (looks-apart w) (omega arith) (ei ∙ ew) in
+      let (all, _) = chain-first (h .indexed) (looked w) (looks-apart w) (omega arith) (ei ∙ ew) in
       record {
         chain = chain-begun h (at-content w) (contents-apart w) (omega arith) (ei ∙ ew);
         taking = omega (arith, tries-are w (rules-in s), ap length all, tries-are w (drop i (rules-in s)));
@@ -108,9 +119,8 @@ module _ {s index : List ℕ} {rules : ℕ} (h : Indexed s index) (n : rules ≡
       (67 + i) 0 → begin ≡ word % 2 ^ 16
       → CountedAt s begin counts w
   next-counted {i} o l ew eb =
-      let inside : i < length (rules-in s) = omega arith in
-      let says = kinds (nth (rules-in s) i) (rule-begins h inside ew eb) .count in
-      record { known = λ e. o .known (count-some (rules-in s) i inside (sym says ∙ e)) }
+      let says = kinds (nth (rules-in s) i) (rule-begins h l ew eb) .count in
+      record { known = λ e. o .known (count-some (rules-in s) i (omega arith) (sym says ∙ e)) }
 
   module _ {i targets looks word begin after end : ℕ} (g : Trying (rules-in s) w i targets looks) (l : i < rules)
       (ew : word ≡ getD index (67 + i) 0)
@@ -120,8 +130,8 @@ module _ {s index : List ℕ} {rules : ℕ} (h : Indexed s index) (n : rules ≡
 
     content-here : (1 ≤ end) × (c : ContentAt s begin (end - 1)) × (nth (rules-in s) i ≡ content (c .fields))
     content-here =
-        content-rule (nth (rules-in s) i) (few-states h) (few-words (h .sheet) .1) (rule-begins h inside ew eb) (g .chain .keyed inside)
-        (ee ∙ rw (← eb) at (rule-ends h inside ew ea))
+        content-rule (nth (rules-in s) i) (few-states h) (few-words (h .indexed .sheet) .1) (rule-begins h l ew eb)
+        (g .chain .keyed inside) (ee ∙ rw (← eb) at (rule-ends (h .indexed) inside ew ea))
 
     pub ends-some : 1 ≤ end
     ends-some = content-here .0
@@ -134,11 +144,10 @@ module _ {s index : List ℕ} {rules : ℕ} (h : Indexed s index) (n : rules ≡
     trying-more {next} {fits = fits} en t m =
         let (_, c, is) = content-here in
         let e = en ∙ ap (λ (x : ℕ). x / 2 ^ 16) ew in
-        let (rest, _) = chain-next h (looked w) (looks-apart w) inside (g .chain .keyed inside) e in
-        let (later, within) = chain-less h n l ew en in
-        let most = in-range (h .sheet) .few-rules in
+        let (rest, _) = chain-next (h .indexed) (looked w) (looks-apart w) inside (g .chain .keyed inside) e in
+        let (later, within) = chain-less h l ew en in
         record {
-          chain = chain-added h (at-content w) (contents-apart w) (g .chain) inside ew en fits (ap (at-content w) is ∙ t .gives c)
+          chain = chain-added h (at-content w) (contents-apart w) (g .chain) l ew en fits (ap (at-content w) is ∙ t .gives c)
               (omega (arith, target-word c, c .here .ranges .2, c .few-states)) m;
           taking = omega (
             arith,
@@ -152,16 +161,11 @@ module _ {s index : List ℕ} {rules : ℕ} (h : Indexed s index) (n : rules ≡
   pub trying-ended : {f : Found} {i : ℕ} → Trying (rules-in s) w i (f .targets) (f .looks) → rules ≤ i → FindsTargets (rules-in s) w f
   unfolding tries
   trying-ended {i = i} g l =
-      let end : length (rules-in s) ≤ i = omega arith in
-      record {
-        reached = chain-ended h
-            (g .chain) end;
-        number = omega (arith, rw (drop-of-length-le (rules-in s) end) at (g .taking));
-        few = g .few .1;
-      }
+      let none = drop-of-length-le (rules-in s) {i = i} (omega arith) in
+      record { reached = chain-ended h (g .chain) l; number = omega (arith, rw none at (g .taking)); few = g .few .1 }
 
 -- the occurrences are counted, or no rule has a count part
-pub counted-if : {s : List ℕ} {r : Rules} {counts w : List ℕ} → RulesOf s r → (0 < r .counted → Occurs counts w) → Counted
+pub counted-if : {s index : List ℕ} {r : Rules} {counts w : List ℕ} → RulesOf s index r → (0 < r .counted → Occurs counts w) → Counted
     (rules-in s) counts w
 counted-if {r = r} k o = record { known = λ l. o (omega (arith, k .counts)) }
 

@@ -9,17 +9,14 @@ use native.Mathlib.Omega.{arith}
 use lib.Dec.{eqb}
 use lib.ListN.{length, getD, drop, drop-of-length-le}
 use lib.Seq.{drop-cons}
-use mir.Syntax.{w64}
-use mir.Val.{Fits}
 use Rattle.model.specs.Sheet.{Rule, one, two, three}
 use Rattle.model.specs.Run.{kind, of-kind}
 use Rattle.model.specs.Spans.{RuleAt, counted}
 use Rattle.model.specs.Index.{rules-in, nth, Indexed}
 use Rattle.model.proofs.PassedLaws.{in-range, rules-word}
 use Rattle.model.proofs.RuleWords.{text-key, tag-key, content-map}
-use Rattle.model.proofs.IndexLaws.{rule-here}
-use Rattle.judge_rules.specs.Rules.{with-count, of-count, RulesOf}
-use Rattle.judge_rules.specs.declared.numbers.Rules.{Rules}
+use Rattle.model.proofs.IndexLaws.{index-room, rule-here}
+use Rattle.judge_rules.specs.Rules.{with-count, of-count, Ruled, RulesOf}
 
 -- what a rule's map tells of it
 pub record Kinds (map : ℕ) (x : Rule) : Type 0 where
@@ -44,67 +41,52 @@ count-some (r ∷ R) zero l e = rw e (omega arith)
 count-some (r ∷ R) (suc i) l e = omega (arith, count-some R i (omega arith) e)
 
 -- the numbers so far, with those of the rules from the i-th on, make all
-pub record Numbering (R : List Rule) (number ones twos counts i : ℕ) : Type 0 where
-  pub all : number ≡ length R
-  pub texts : ones + of-kind 1 (drop i R) ≡ of-kind 1 R
-  pub tags : twos + of-kind 2 (drop i R) ≡ of-kind 2 R
-  pub counting : counts + of-count (drop i R) ≡ of-count R
-  pub few : (i ≤ length R) × (length R ≤ 1024) × (ones ≤ i) × (twos ≤ i) × (counts ≤ i)
+pub record Numbering (s index : List ℕ) (number ones twos counts i : ℕ) : Type 0 where
+  pub ruled : Ruled s index number
+  pub texts : ones + of-kind 1 (drop i (rules-in s)) ≡ of-kind 1 (rules-in s)
+  pub tags : twos + of-kind 2 (drop i (rules-in s)) ≡ of-kind 2 (rules-in s)
+  pub counting : counts + of-count (drop i (rules-in s)) ≡ of-count (rules-in s)
+  pub few : (i ≤ number) × (ones ≤ i) × (twos ≤ i) × (counts ≤ i)
 
-module _ {s index : List ℕ} (h : Indexed s index) where
-  pub numbering-none : {word number : ℕ} → word ≡ getD s 5 0 → number ≡ word → Numbering (rules-in s) number 0 0 0 0
-  numbering-none ew en = record {
-    all = omega (arith, rules-word (h .sheet));
-    texts = omega arith;
-    tags = omega arith;
-    counting = omega arith;
-    few = (omega arith, in-range (h .sheet) .few-rules, omega arith, omega arith, omega arith);
-  }
+pub numbering-none : {s index : List ℕ} {word number : ℕ} → Indexed s index → word ≡ getD s 5 0 → number ≡ word
+    → Numbering s index number 0 0 0 0
+numbering-none {s} {index} {number = number} h ew en =
+    let all : number ≡ length (rules-in s) = omega (arith, rules-word (h .sheet)) in
+    record {
+      ruled = record { indexed = h; all = all; room = omega (arith, index-room h); few = omega (arith, in-range (h .sheet) .few-rules) };
+      texts = omega arith;
+      tags = omega arith;
+      counting = omega arith;
+      few = omega arith;
+    }
 
-  module _ {number ones twos counts i : ℕ} (g : Numbering (rules-in s) number ones twos counts i) where
-    pub ones-fit : i < number → {n : ℕ} → n ≤ 1 → Fits w64 (ones + n)
-    ones-fit l m = record { fits = omega (arith, g .few, g .all) }
-
-    pub twos-fit : i < number → {n : ℕ} → n ≤ 1 → Fits w64 (twos + n)
-    twos-fit l m = record { fits = omega (arith, g .few, g .all) }
-
-    pub counts-fit : i < number → {n : ℕ} → n ≤ 1 → Fits w64 (counts + n)
-    counts-fit l m = record { fits = omega (arith, g .few, g .all) }
-
-    -- the rule in hand, before the others
-    pub numbering-more : i < number → {word begin map one two three : ℕ} {b : Bool} → word ≡ getD index
-        (67 + i) 0 → begin ≡ word % 2 ^ 16 → map ≡ getD s begin 0
-        → (one ≡ cond (eqb map 33) 1 0) × (one ≤ 1) → (two ≡ cond (eqb map 38) 1 0) × (two ≤ 1) → b ≡ counted map → (three ≡ cond b 1 0) ×
-        (three ≤ 1)
-        → Numbering (rules-in s) number (ones + one) (twos + two) (counts + three) (i + 1)
-    unfolding of-kind of-count
-    numbering-more l {map = map} ew eb em (e₁, f₁) (e₂, f₂) ec (e₃, f₃) =
-        let R = rules-in s in
-        let inside : i < length R = omega (arith, g .all) in
-        let k : Kinds map (nth R i) = rw (em, eb) (kinds (nth R i) (rule-here h inside ew)) in
-        let split : drop i R ≡ nth R i ∷ drop (i + 1) R = rw (add-one i) (drop-cons R i (Rule.one 0 0) inside) in
-        record {
-          all = g .all;
-          texts = omega (arith, rw split at (g .texts), rw (k .text) at e₁);
-          tags = omega (arith, rw split at (g .tags), rw (k .tag) at e₂);
-          counting = omega (arith, rw split at (g .counting), rw (ec, k .count) at e₃);
-          few = (
-            omega arith,
-            g .few .1,
-            omega (arith, g .few, f₁),
-            omega (arith, g .few, f₂),
-            omega (arith, g .few, f₃),
-          );
-        }
-
-  pub numbering-all : {r : Rules} {i : ℕ} → Numbering (rules-in s) (r .number) (r .ones) (r .twos)
-      (r .counted) i → r .number ≤ i → RulesOf s r
+module _ {s index : List ℕ} {number ones twos counts i : ℕ} (g : Numbering s index number ones twos counts i) where
+  -- the rule in hand, before the others
+  pub numbering-more : i < number → {word begin map one two three : ℕ} {b : Bool} → word ≡ getD index (67 + i) 0 → begin ≡ word % 2 ^ 16
+      → map ≡ getD s begin 0 → (one ≡ cond (eqb map 33) 1 0) × (one ≤ 1) → (two ≡ cond (eqb map 38) 1 0) × (two ≤ 1) → b ≡ counted map
+      → (three ≡ cond b 1 0) × (three ≤ 1) → Numbering s index number (ones + one) (twos + two) (counts + three) (i + 1)
   unfolding of-kind of-count
-  numbering-all {i = i} g l =
-      let none = drop-of-length-le (rules-in s) {i = i} (omega (arith, g .all)) in
+  numbering-more l {map = map} ew eb em (e₁, f₁) (e₂, f₂) ec (e₃, f₃) =
+      let R = rules-in s in
+      let inside : i < length R = omega (arith, g .ruled .all) in
+      let k : Kinds map (nth R i) = rw (em, eb) (kinds (nth R i) (rule-here (g .ruled .indexed) inside ew)) in
+      let split : drop i R ≡ nth R i ∷ drop (i + 1) R = rw (add-one i) (drop-cons R i (Rule.one 0 0) inside) in
       record {
-        all = g .all;
+        ruled = g .ruled;
+        texts = omega (arith, rw split at (g .texts), rw (k .text) at e₁);
+        tags = omega (arith, rw split at (g .tags), rw (k .tag) at e₂);
+        counting = omega (arith, rw split at (g .counting), rw (ec, k .count) at e₃);
+        few = omega (arith, g .few);
+      }
+
+  pub numbering-all : number ≤ i → RulesOf s index (record { number = number; ones = ones; twos = twos; counted = counts })
+  unfolding of-kind of-count
+  numbering-all l =
+      let none = drop-of-length-le (rules-in s) {i = i} (omega (arith, g .ruled .all)) in
+      record {
+        ruled = g .ruled;
         texts = omega (arith, rw none at (g .texts));
         tags = omega (arith, rw none at (g .tags));
         counts = omega (arith, rw none at (g .counting));
+        few = omega (arith, g .few);
       }

@@ -1,4 +1,4 @@
 mod KindLaws
-mod TargetLaws
+pub mod TargetLaws
 mod TryLaws
 pub mod ContentLaws

@@ -41,24 +41,6 @@ module _ {s : List ℕ} {at target : ℕ} (c : ContentAt s at target) where
   counts-end : middle + length (count-part (c .states) (c .fields .count)) ≡ target
   counts-end = omega (arith, after-count (c .here) {c = middle} refl, c .ends)
 
-  pub part-before : at + 1 ≤ target
-  part-before = omega (arith, counts-end)
-
-  pub target-room : target < length s
-  target-room = target-there (c .here) (c .ends) .0
-
-  pub target-within : target ≤ length s
-  target-within = omega (arith, target-room)
-
-  pub map-room : at < length s
-  map-room = omega (arith, part-before, target-room)
-
-  pub part-room : at + 1 < length s
-  part-room = omega (arith, part-before, target-room)
-
-  pub part-fits : Fits w64 (at + 1)
-  part-fits = record { fits = omega (arith, part-room, c .few-words) }
-
   pub target-word : getD s target 0 ≡ c .fields .target
   target-word = target-there (c .here) (c .ends) .1
 
@@ -76,7 +58,7 @@ module _ {s : List ℕ} {at target : ℕ} (c : ContentAt s at target) where
       middle-before = omega (arith, order-long, counts-end)
 
       pub middle-room : at + 1 + n < length s
-      middle-room = omega (arith, middle-before, target-room)
+      middle-room = omega (arith, middle-before, c .room)
 
       pub middle-within : at + 1 + n ≤ length s
       middle-within = omega (arith, middle-room)
@@ -162,7 +144,7 @@ module _ {s : List ℕ} {at target : ℕ} where
     gives = λ c. rw (target-word c, both c .0);
     takes = λ c. ap suc (sym (both c .1));
     few = few;
-    there = target-room here;
+    there = here .room;
   }
 
   module _ {counts words : List ℕ} (here : ContentAt s at target) (o : CountedAt s at counts (states-of words))

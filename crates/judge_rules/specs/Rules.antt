@@ -1,17 +1,16 @@
 -- The rules of a sheet: how many there are, and what one of them gives.
 use mathlib.Core.Path.{_≡_}
 use mathlib.Core.Bool.{Bool, true, false, cond, _&&_, _||_}
-use mathlib.Core.List.{List, [], _∷_, flatMap}
+use mathlib.Core.List.{List, [], _∷_}
 use mathlib.Core.Option.{none, some}
 use Prim.Native.Nat.{ℕ, suc, _+_, _^_, _≤_, _<_}
 use lib.Dec.{eqb}
 use lib.ListN.{length, getD}
 use Rattle.model.specs.Lists.{only}
 use Rattle.model.specs.Sheet.{Rule, one, two, three, rule-words, bit, mask}
-use Rattle.model.specs.Run.{at-tag, at-content, looks-of, of-kind}
+use Rattle.model.specs.Run.{at-content, looks-of, of-kind}
 use Rattle.model.specs.Spans.{RuleAt, Content, content, counted}
-use Rattle.model.specs.Index.{rules-in}
-use Rattle.bits.specs.Stands.{Stands}
+use Rattle.model.specs.Index.{rules-in, Indexed}
 use Rattle.judge_count.specs.Count.{Occurs, Counts, CountPart, CountSays}
 use Rattle.judge_rules.specs.declared.numbers.Rules.{Rules}
 
@@ -28,12 +27,20 @@ unfoldable pub of-count : List Rule → ℕ
 of-count [] = 0
 of-count (r ∷ R) = cond (with-count r) 1 0 + of-count R
 
--- the numbers of the rules of the sheet s
-pub record RulesOf (s : List ℕ) (r : Rules) : Type 0 where
-  pub all : r .number ≡ length (rules-in s)
+-- a sheet with its index, in which each of its rules has an entry, and their number
+pub record Ruled (s index : List ℕ) (number : ℕ) : Type 0 where
+  pub indexed : Indexed s index
+  pub all : number ≡ length (rules-in s)
+  pub room : 67 + number < length index
+  pub few : number ≤ 1024
+
+-- the numbers of its rules, by kind
+pub record RulesOf (s index : List ℕ) (r : Rules) : Type 0 where
+  pub ruled : Ruled s index (r .number)
   pub texts : r .ones ≡ of-kind 1 (rules-in s)
   pub tags : r .twos ≡ of-kind 2 (rules-in s)
   pub counts : r .counted ≡ of-count (rules-in s)
+  pub few : (r .ones ≤ r .number) × (r .twos ≤ r .number)
 
 -- ---- rules of kind two
 
@@ -41,9 +48,11 @@ pub record RulesOf (s : List ℕ) (r : Rules) : Type 0 where
 abbrev pub with-target : (s : List ℕ) (at inner targets : ℕ) → ℕ
 with-target s at inner targets = mask 64 (λ j. bit targets j || (bit inner (getD s (at + 2) 0) && eqb j (getD s (at + 3) 0)))
 
--- what the rules R give for a tag whose content reaches the states of the set `inner`
-pub record TagReaches (R : List Rule) (tag inner targets : ℕ) : Type 0 where
-  pub reached : (l : List ℕ) → Stands inner l → Stands targets (flatMap (at-tag tag l) R)
+-- what a rule gives for a tag whose content reaches the states of the set `inner`
+unfoldable pub at-tag-with : (tag inner : ℕ) → Rule → List ℕ
+at-tag-with a inner (one j q) = []
+at-tag-with a inner (two b c q) = only (eqb b a && bit inner c) q
+at-tag-with a inner (three o c q) = []
 
 -- ---- a rule of kind three
 
@@ -53,6 +62,8 @@ pub record ContentAt (s : List ℕ) (at target : ℕ) : Type 0 where
   pub fields : Content
   pub few-states : states ≤ 64
   pub few-words : length s ≤ 16384
+  pub before : at < target
+  pub room : target < length s
   pub here : RuleAt states s at (content fields)
   pub ends : target + 1 ≡ at + length (rule-words states (content fields))
 

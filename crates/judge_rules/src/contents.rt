@@ -1,10 +1,9 @@
 // Content: the states that an element's children reach together, by the kind-three rules.
-ghost use mathlib.Core.Path.{_≡_};
 ghost use mathlib.Core.Logic.{_≢_};
 ghost use lib.ListN.{length};
-ghost use Rattle.model.specs.Index.{rules-in, Indexed};
+ghost use Rattle.model.specs.Index.{rules-in};
 ghost use Rattle.judge_order.specs.Order.{StateWords, states-of};
-ghost use Rattle.judge_rules.specs.Rules.{RulesOf, ContentAt, CountedAt, CountIf, CountHolds, Tries};
+ghost use Rattle.judge_rules.specs.Rules.{Ruled, RulesOf, ContentAt, CountedAt, CountIf, CountHolds, Tries};
 ghost use Rattle.judge_rules.specs.Found.{FindsTargets, FindsContent, Counted};
 use crate::numbers::Rules;
 use judge_count::count_fits;
@@ -68,7 +67,7 @@ pub struct Found {
 
 // Try every kind-three rule, along their chain; the sheet has `rules` rules.
 fn try_all(sheet: &[u32], index: &[u32], rules: usize, words: &[u32], counts: &[u32; 64]) -> Found
-    requires index { ⌜ Indexed (now sheet) (now index) × (rules ≡ length (rules-in (now sheet))) ⌝ }
+    requires index { ⌜ Ruled (now sheet) (now index) rules ⌝ }
     requires words { ⌜ StateWords (now words) × Counted (rules-in (now sheet)) (now counts) (states-of (now words)) ⌝ }
     ensures { λ f. ⌜ FindsTargets (rules-in (now (sheet .entry))) (states-of (now (words .entry))) f ⌝ }
 {
@@ -90,7 +89,7 @@ fn try_all(sheet: &[u32], index: &[u32], rules: usize, words: &[u32], counts: &[
 // The states that content reaches whose children, none or several, have these state words: every kind-three rule is tried.
 // Occurrences are counted once for all of them.
 pub fn content(sheet: &[u32], index: &[u32], rules: Rules, words: &[u32]) -> Found
-    requires index { ⌜ Indexed (now sheet) (now index) × RulesOf (now sheet) rules ⌝ }
+    requires index { ⌜ RulesOf (now sheet) (now index) rules ⌝ }
     requires words { ⌜ StateWords (now words) × (length (now words) ≢ 1) ⌝ }
     ensures { λ f. ⌜ FindsContent (rules-in (now (sheet .entry))) (states-of (now (words .entry))) f ⌝ }
 {

@@ -27,7 +27,7 @@ fn one_if(flag: bool) -> usize
 // The numbers of a sheet's rules, found once in a run.
 pub fn count_rules(sheet: &[u32], index: &[u32]) -> Rules
     requires { ⌜ Indexed (now sheet) (now index) ⌝ }
-    ensures { λ r. ⌜ RulesOf (now (sheet .entry)) r ⌝ }
+    ensures { λ r. ⌜ RulesOf (now (sheet .entry)) (now (index .entry)) r ⌝ }
 {
     let number = layout::wide(parts::at(sheet, RULES));
     let mut ones = 0;

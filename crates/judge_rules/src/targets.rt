@@ -1,11 +1,12 @@
 // What the rules of kinds one and two give, as sets of target states.
 ghost use mathlib.Core.Path.{_≡_};
+ghost use mathlib.Core.List.{flatMap};
 ghost use Prim.Native.Nat.{_+_, _≤_, _<_};
 ghost use lib.ListN.{length};
 ghost use Rattle.model.specs.Run.{text-targets};
-ghost use Rattle.model.specs.Index.{rules-in, Indexed};
+ghost use Rattle.model.specs.Index.{rules-in};
 ghost use Rattle.bits.specs.Stands.{Stands};
-ghost use Rattle.judge_rules.specs.Rules.{TagReaches, with-target};
+ghost use Rattle.judge_rules.specs.Rules.{Ruled, with-target, at-tag-with};
 use layout::ENTRIES;
 use layout::wide;
 
@@ -14,7 +15,7 @@ const TEXT_KINDS: usize = 2;
 
 // The targets of the kind-one rules for a kind of text, along its chain; the sheet has `rules` rules.
 pub fn text_targets(sheet: &[u32], index: &[u32], rules: usize, kind: u32) -> u64
-    requires index { ⌜ Indexed (now sheet) (now index) × (rules ≡ length (rules-in (now sheet))) ⌝ }
+    requires index { ⌜ Ruled (now sheet) (now index) rules ⌝ }
     requires kind { ⌜ (1 ≤ kind) × (kind ≤ 2) ⌝ }
     ensures { λ r. ⌜ Stands r (text-targets (rules-in (now (sheet .entry))) kind) ⌝ }
 {
@@ -42,9 +43,9 @@ fn with_target(sheet: &[u32], at: usize, inner: u64, targets: u64) -> u64
 
 // The targets of the kind-two rules for a tag whose content reaches the states of `inner`, along the tag's chain.
 pub fn tag_targets(sheet: &[u32], index: &[u32], rules: usize, tag: u32, inner: u64) -> u64
-    requires index { ⌜ Indexed (now sheet) (now index) × (rules ≡ length (rules-in (now sheet))) ⌝ }
+    requires index { ⌜ Ruled (now sheet) (now index) rules ⌝ }
     requires tag { ⌜ (1 ≤ tag) × (tag ≤ 64) ⌝ }
-    ensures { λ r. ⌜ TagReaches (rules-in (now (sheet .entry))) tag inner r ⌝ }
+    ensures { λ r. ⌜ Stands r (flatMap (at-tag-with tag inner) (rules-in (now (sheet .entry)))) ⌝ }
 {
     let mut targets: u64 = 0;
     let mut i = wide(index[TEXT_KINDS + wide(tag)]);

@@ -1,2 +1,1 @@
 mod RunLaws
-mod EndLaws

@@ -1,67 +1,34 @@
--- The run's loop, and its verdict.
-use mathlib.Core.Path.{_≡_, refl, sym, ap, _∙_}
+-- The run's loop over the nodes of a form, and its outcome by its case.
+use mathlib.Core.Path.{_≡_, refl, ap, _∙_, subst}
 use mathlib.Core.Logic.{_≢_}
-use mathlib.Core.Bool.{Bool, true, false, cond}
-use mathlib.Core.List.{List, [], _∷_, _++_, append-nil, List·Memᴰ·head}
-use Prim.Native.Nat.{ℕ, zero, suc, _+_, _-_, _*_, _/_, _%_, _^_, _≤_, _<_}
-use native.Mathlib.Nat.{zero-add}
-use native.Mathlib.Numerals.{add-one}
+use mathlib.Core.List.{List, [], _∷_}
+use Prim.Native.Nat.{ℕ, zero, suc, _+_, _-_, _*_, _^_, _≤_, _<_}
+use native.Mathlib.Nat.{zero-add, mul-le-mul-right}
 use native.Mathlib.Omega.{arith}
-use lib.Dec.{eqb}
-use lib.ListN.{length, getD, drop, set, replicate, length-set, length-drop, drop-of-length-le}
+use lib.ListN.{length, drop, set, replicate, length-set, drop-of-length-le}
 use lib.Seq.{drop-cons, drop-set-lt, getD-set-same, drop-length}
-use borrow.Author.Fill.{fill-none, fill-more}
-use mir.Syntax.{w64}
+use mir.Syntax.{w32, w64}
 use mir.Val.{Fits}
-use Rattle.model.specs.Lists.{_∈_, has}
-use Rattle.model.specs.Answers.{accepted, refused, stuck}
-use Rattle.model.specs.Sheet.{Rule, W, bit, mask, members}
-use Rattle.model.specs.Run.{Reached, nothing, just, several, gist, Item, items, ran, two-at, put, judge-node, run, last-zero, root-verdict}
-use Rattle.model.specs.Index.{sheet-in, rules-in, Passes, Indexed}
-use Rattle.model.proofs.PassedLaws.{in-range, final-words}
-use Rattle.model.proofs.Tests.{or-right, eqb-false}
-use Rattle.model.proofs.SetWords.{members-set}
-use Rattle.bits.specs.Stands.{Stands}
-use Rattle.bits.proofs.SetLaws.{stands-none, stands-some, members-stand, words-stand}
-use Rattle.bits.proofs.GistLaws.{gist-just, gist-several}
+use Rattle.model.specs.Answers.{Said, refusal}
+use Rattle.model.specs.Tree.{Element, text, tag, size}
+use Rattle.model.specs.Sheet.{Rule}
+use Rattle.model.specs.Run.{Reached, nothing, just, several, gist, Item, items, ran, two-at, put, judge-node, run, root-verdict, verdict}
+use Rattle.model.specs.Calls.{first-states}
+use Rattle.model.specs.Index.{sheet-in, rules-in, Indexed}
+use Rattle.model.proofs.TreeLaws.{tree-passes}
+use Rattle.model.proofs.RunLaws.{over-formed, RunSays, run-says}
+use Rattle.model.proofs.PassedLaws.{in-range}
 use Rattle.judge_rules.specs.Rules.{RulesOf}
+use Rattle.judge_rules.specs.Found.{FindsContent}
 use Rattle.judge_rules.specs.declared.numbers.Rules.{Rules}
 use Rattle.judge_rules.specs.declared.contents.Found.{Found}
 use Rattle.judge_node.specs.Node.{Shaped, Small, node-targets, node-looks}
 use Rattle.judge_node.specs.Judging.{Judging, FindsNode}
-use Rattle.judge_rules.specs.Found.{FindsContent}
-use Rattle.judge_run.specs.Run.{Word, WordOf}
-use Rattle.judge_node.proofs.NodeLaws.{items-at, length-items, node-judged}
-
--- ---- the state word of a set
-
-pub word-none : {targets : ℕ} → targets ≡ 0 → WordOf targets 0
-unfolding gist
-word-none e = record { says = λ l s. rw (stands-none s e) }
-
--- with other members beside the lowest, and without
-module _ {targets rest : ℕ} (others : members 64 rest ≡ drop 1 (members 64 targets)) (fits : rest < 2 ^ 64) where
-  pub word-several : rest ≢ 0 → WordOf targets 65
-  word-several n =
-      let (x, xs, e) = stands-some (members-stand fits) n in
-      let two : 1 < length (members 64 targets) = omega (arith, length-drop 1 (members 64 targets), ap length (sym others ∙ e)) in
-      record { says = λ l s. rw (gist-several s (omega arith) (omega arith)) }
-
-  alone : targets < 2 ^ 64 → targets ≢ 0 → rest ≡ 0 → length (members 64 targets) ≡ 1
-  alone small n z =
-      let (x, xs, e) = stands-some (members-stand small) n in
-      omega (arith, length-drop 1 (members 64 targets), ap length (sym others ∙ stands-none (members-stand fits) z), ap length e)
-
-  module _ (small : targets < 2 ^ 64) (n : targets ≢ 0) (z : rest ≡ 0) {low : ℕ} (lowest : low ≡ getD (members 64 targets) 0 64) where
-    pub low-small : low < 64
-    low-small = rw lowest (members-set 64 targets .below _ (first (members 64 targets) (alone small n z)))
-      where
-        first : (m : List ℕ) → length m ≡ 1 → getD m 0 64 ∈ m
-        first [] h = absurd (omega arith)
-        first (x ∷ m) h = List·Memᴰ·head refl
-
-    pub word-one : WordOf targets (low + 1)
-    word-one = record { says = λ l s. rw (gist-just s (alone small n z), ← lowest) (add-one low, omega (arith, low-small)) }
+use Rattle.judge_node.proofs.NodeLaws.{items-at, length-items, tree-shaped, node-judged}
+use Rattle.judge_states.specs.States.{Word, WordOf}
+use Rattle.judge_run.specs.Run.{Form, Ends, verdict-on, states-on}
+use Rattle.judge_run.specs.declared.Outcome.{Outcome}
+use Rattle.judge_run.specs.declared.Outcome.the-variants.{All, Two}
 
 -- ---- the loop
 
@@ -90,7 +57,7 @@ pub record Running (R : List Rule) (tree : List ℕ) (n i : ℕ) (states : List 
   pub long : length states ≡ n
   pub small : Small (drop i states)
   pub so-far : run R (drop i (items tree)) ≡ ran (drop i states) looks
-  pub few : looks ≤ (n - i) * 2 ^ 43
+  pub few : (n ≤ 4096) × (looks ≤ (n - i) * 2 ^ 43)
 
 pub running-none : (R : List Rule) {tree : List ℕ} (states : List ℕ) → Shaped tree (length states) → Running R tree (length states)
     (length states) states 0
@@ -102,7 +69,7 @@ running-none R {tree} states t =
       long = refl;
       small = rw (drop-length states) tt;
       so-far = rw (drop-of-length-le (items tree) {i = length states} (omega arith), drop-length states);
-      few = omega arith;
+      few = omega (arith, t .few);
     }
 
 pub running-all : {R : List Rule} {tree : List ℕ} {n i : ℕ} {states : List ℕ} {looks : ℕ} → Running R tree n i states looks → i ≤ 0 → run R
@@ -120,13 +87,11 @@ module _ {R : List Rule} {tree : List ℕ} {n i : ℕ} {states : List ℕ} {look
       rw (items-at tree (i - 1) (omega (arith, t .long, g .within)), e, g .so-far) (rw e at (node-judged R tree states (i - 1) looks))
 
   -- what its judging asks
-  pub running-judging : {s index words : List ℕ} {rules : Rules} {nothing : Found} → Indexed s index → RulesOf s rules → FindsContent
-      (rules-in s) [] nothing
-      → n ≤ length words → Judging s index (record { node = i - 1; rules = rules; nothing = nothing }) tree states words
-  running-judging h k f room =
+  pub running-judging : {s index words : List ℕ} {rules : Rules} {nothing : Found} → RulesOf s index rules
+      → FindsContent (rules-in s) [] nothing → n ≤ length words → Judging s index (record { node = i - 1; rules = rules; nothing = nothing }) tree states words
+  running-judging k f room =
       let e : i - 1 + 1 ≡ i = omega arith in
       record {
-        indexed = h;
         rules = k;
         nothing = f;
         shaped = rw (g .long) t;
@@ -149,9 +114,6 @@ module _ {R : List Rule} {tree : List ℕ} {n i : ℕ} {states : List ℕ} {look
         rw z at (two-decides R (i - 1) 0 (items tree) within
         (judged ∙ put-two (gist (node-targets R tree states (i - 1))) its-word e _ _ _))
 
-    pub looks-fit : Fits w64 (looks + found .looks)
-    looks-fit = record { fits = omega (arith, g .few, f .few, t .few, g .within) }
-
     pub running-more : w ≢ 65 → {left : List ℕ} → left ≡ set states (i - 1) w → Running R tree n (i - 1) left (looks + found .looks)
     running-more d el =
         let (e, small) = put-word (gist (node-targets R tree states (i - 1))) its-word d (node-looks R tree states (i - 1))
@@ -169,104 +131,49 @@ module _ {R : List Rule} {tree : List ℕ} {n i : ℕ} {states : List ℕ} {look
           few = omega (arith, g .few, f .few, g .within);
         })
 
--- ---- all state words 0
+-- ---- the nodes of a form
 
--- the first i words are 0 in place of those of `old`
-pub record Clearing (old states : List ℕ) (i : ℕ) : Type 0 where
-  pub within : i ≤ length old
-  pub long : length states ≡ length old
-  pub zeros : states ≡ replicate i 0 ++ drop i old
+module _ {s index tree : List ℕ} {n : ℕ} (h : Indexed s index) (f : Form s tree n) where
+  few-tags : sheet-in s .tags ≤ 64
+  few-tags = in-range (h .sheet) .few-tags
 
-pub clearing-none : (old : List ℕ) → Clearing old old 0
-clearing-none old = record { within = omega arith; long = refl; zeros = fill-none old 0 }
+  pub form-shaped : Shaped tree n
+  form-shaped = rw (f .nodes) at (tree-shaped few-tags (f .as-tree))
 
-module _ {old states : List ℕ} {i : ℕ} (g : Clearing old states i) where
-  pub clearing-more : i < length states → Clearing old (set states i 0) (i + 1)
-  clearing-more h = record {
-    within = omega (arith, g .long);
-    long = length-set states i 0 ∙ g .long;
-    zeros = ap (λ (l : List ℕ). set l i 0) (g .zeros) ∙ fill-more i 0 old (omega (arith, g .long));
-  }
+  -- looks fit 32 bits
+  looks-small : {st : List ℕ} {m : ℕ} → run (rules-in s) (items tree) ≡ ran st m → m < 2 ^ 32
+  looks-small {st} {m} e =
+      let R = rules-in s in
+      let (w, o) = tree-passes (sheet-in s .tags) few-tags tree (f .form) .0 (f .as-tree) in
+      let formed = over-formed (sheet-in s .tags) few-tags (f .form) o in
+      let says : RunSays R (f .form) (ran st m) = rw (← w, e) at (run-says R (f .form) formed) in
+      let most = in-range (h .sheet) .few-rules in
+      let a : size (f .form) * length R ≤ 4096 * length R = mul-le-mul-right (length R) (o .few) in
+      let b : 2 * size (f .form) * length R ≡ 2 * (size (f .form) * length R) = omega arith in
+      omega (arith, says .2)
 
-  pub clearing-all : length states ≤ i → states ≡ replicate (length old) 0
-  clearing-all h =
-      let e : i ≡ length old = omega (arith, g .long, g .within) in
-      g .zeros ∙ rw (e, drop-length old) (append-nil (replicate (length old) 0))
+  pub looks-fit : (old left : List ℕ) {x : Outcome} {m : ℕ} → Ends s tree old x left → x ≡ All m → Fits w32 m
+  looks-fit old left ends e = record { fits = looks-small (subst (λ y. Ends s tree old y left) e ends) }
 
--- ---- the verdict
+-- there is a node
+pub form-some : {s tree : List ℕ} {n : ℕ} → Form s tree n → 0 < n
+unfolding size
+form-some f = rw (f .nodes) at (go (f .form))
+  where
+    go : (e : Element) → 0 < size e
+    go (text k w) = omega arith
+    go (tag a w d) = omega arith
 
-zero-has : (st : List ℕ) (i : ℕ) → i < length st → getD st i 0 ≡ 0 → has st 0 ≡ true
-unfolding has
-zero-has [] i h e = absurd (omega arith)
-zero-has (s ∷ st) zero h e = rw e
-zero-has (s ∷ st) (suc i) h e = or-right (eqb 0 s) (zero-has st i (omega arith) e)
+-- ---- the outcome of the run, by its case
 
-last-zero-at : (st : List ℕ) (i : ℕ) → i < length st → getD st i 0 ≡ 0 → has (drop (i + 1) st) 0 ≡ false → last-zero st ≡ i
-unfolding last-zero
-last-zero-at [] i h e n = absurd (omega arith)
-last-zero-at (s ∷ st) zero h e n = rw n
-last-zero-at (s ∷ st) (suc i) h e n =
-    rw (zero-has st i (omega arith) e) (ap suc (last-zero-at st i (omega arith) e (rw (add-one i) (rw (add-one (suc i)) at n))))
+module _ {x : Outcome} (s tree old left : List ℕ) (ends : Ends s tree old x left) where
+  pub all-said : {m : ℕ} → x ≡ All m → {v : Said} → v ≡ root-verdict (sheet-in s .final) left m → (v ≡ verdict-on s tree) ×
+      (left ≡ states-on s tree old)
+  unfolding verdict first-states
+  all-said e ev = rw (subst (λ y. Ends s tree old y left) e ends) (ev, refl)
 
--- no state word after node i is 0
-pub record Seeking (st : List ℕ) (i : ℕ) : Type 0 where
-  pub within : i < length st
-  pub none : has (drop (i + 1) st) 0 ≡ false
-
-pub seek-start : (st : List ℕ) → 0 < length st → Seeking st (length st - 1)
-unfolding has
-seek-start st h = record { within = omega arith; none = rw (drop-of-length-le st {i = length st - 1 + 1} (omega arith)) }
-
-module _ {st : List ℕ} {i : ℕ} (g : Seeking st i) where
-  pub seek-found : getD st i 0 ≡ 0 → i ≡ last-zero st
-  seek-found e = sym (last-zero-at st i (g .within) e (g .none))
-
-  pub seek-more : getD st 0 0 ≡ 0 → getD st i 0 ≢ 0 → (1 ≤ i) × Seeking st (i - 1)
-  unfolding has
-  seek-more z d = go i refl
-    where
-      go : (j : ℕ) → i ≡ j → (1 ≤ i) × Seeking st (i - 1)
-      go zero e = absurd (d (rw e z))
-      go (suc j) e =
-          let f : i - 1 + 1 ≡ i = omega arith in (
-            omega arith,
-            record {
-              within = omega (arith, g .within);
-              none = rw (f, drop-cons st i 0 (g .within), eqb-false {m = 0} {n = getD st i 0} (λ k. d (sym k)))
-                  (rw (add-one i) at (g .none));
-            },
-          )
-
--- the final states of a sheet that passes
-pub final-stands : {s : List ℕ} → Passes s → {r : ℕ} → r ≡ getD s 2 0 + getD s 3 0 * W → Stands r (sheet-in s .final)
-final-stands {s} ok e =
-    let n = mask (sheet-in s .states) (has (sheet-in s .final)) in
-    let halves : n ≡ n % W + n / W * W = omega arith in
-    words-stand (sheet-in s .states) (sheet-in s .final) (in-range ok .few-states) (in-range ok .final) (e ∙ final-words ok ∙ halves)
-
-module _ (final st : List ℕ) (m : ℕ) (some : 0 < length st) where
-  pub root-stuck : getD st 0 0 ≡ 0 → {i : ℕ} → i ≡ last-zero st → stuck i m ≡ root-verdict final st m
-  unfolding root-verdict
-  root-stuck z e = rw e (go st some z)
-    where
-      go : (st : List ℕ) → 0 < length st → getD st 0 0 ≡ 0 → stuck (last-zero st) m ≡ root-verdict final st m
-      go [] h z = absurd (omega arith)
-      go (zero ∷ st) h z = refl
-      go (suc q ∷ st) h z = absurd (omega arith)
-
-  module _ (d : getD st 0 0 ≢ 0) {set : ℕ} (stands : Stands set final) {b : Bool} (eb : b ≡ bit set (getD st 0 0 - 1)) where
-    by-final : cond b (accepted (getD st 0 0 - 1) m) (refused (getD st 0 0 - 1) m) ≡ root-verdict final st m
-    unfolding root-verdict
-    by-final = rw (eb ∙ stands .same (getD st 0 0 - 1)) (go st some d)
-      where
-        go : (st : List ℕ) → 0 < length st → getD st 0 0 ≢ 0
-            → cond (has final (getD st 0 0 - 1)) (accepted (getD st 0 0 - 1) m) (refused (getD st 0 0 - 1) m) ≡ root-verdict final st m
-        go [] h d = absurd (omega arith)
-        go (zero ∷ st) h d = absurd (d refl)
-        go (suc q ∷ st) h d = let e : suc q - 1 ≡ q = omega arith in rw e
-
-    pub root-accepted : b ≡ true → accepted (getD st 0 0 - 1) m ≡ root-verdict final st m
-    root-accepted e = rw e at by-final
-
-    pub root-refused : b ≡ false → refused (getD st 0 0 - 1) m ≡ root-verdict final st m
-    root-refused e = rw e at by-final
+  pub two-said : {i : ℕ} → x ≡ Two i → (refusal 23 i ≡ verdict-on s tree) × (left ≡ states-on s tree old)
+  unfolding verdict first-states
+  two-said {i} e =
+      let t : (run (rules-in s) (items tree) ≡ two-at i) × (left ≡ replicate (length old) 0) = subst (λ y. Ends s tree old y left) e ends in
+      rw (t .0) (refl, t .1)

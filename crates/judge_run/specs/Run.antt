@@ -1,14 +1,13 @@
--- What a node's state word says of the states that it reaches, and what a run comes to.
+-- What a run is lent, and what it comes to.
 use mathlib.Core.Path.{_≡_}
 use mathlib.Core.List.{List}
-use Prim.Native.Nat.{ℕ, suc, _≤_}
+use Prim.Native.Nat.{ℕ}
 use lib.ListN.{length, replicate}
 use Rattle.model.specs.Answers.{Said, passes}
 use Rattle.model.specs.Tree.{Element, size, tree-of}
-use Rattle.model.specs.Run.{Reached, nothing, just, several, gist, ran, two-at, items, run, verdict}
+use Rattle.model.specs.Run.{ran, two-at, items, run, verdict}
 use Rattle.model.specs.Calls.{first-states}
 use Rattle.model.specs.Index.{sheet-in, rules-in}
-use Rattle.bits.specs.Stands.{Stands}
 use Rattle.judge_run.specs.declared.Outcome.{Outcome}
 use Rattle.judge_run.specs.declared.Outcome.the-variants.{All, Two}
 
@@ -17,16 +16,6 @@ pub record Form (s tree : List ℕ) (n : ℕ) : Type 0 where
   pub form : Element
   pub as-tree : tree-of (sheet-in s .tags) tree ≡ passes form
   pub nodes : size form ≡ n
-
--- 0, or one more than the state, or 65, which is no state word
-abbrev pub Word : Reached → ℕ → Type 0
-Word nothing w = w ≡ 0
-Word (just q) w = (w ≡ suc q) × (w ≤ 64)
-Word several w = w ≡ 65
-
--- of a node that reaches the states of this set
-pub record WordOf (targets w : ℕ) : Type 0 where
-  pub says : (l : List ℕ) → Stands targets l → Word (gist l) w
 
 -- The nodes have their state words; or one of them reaches two states, and then all state words are 0.
 abbrev pub Ends : (s tree old : List ℕ) → Outcome → (states : List ℕ) → Type 0

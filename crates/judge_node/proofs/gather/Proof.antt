@@ -1,9 +1,8 @@
 -- `judge_node::gather` meets its contract: so far the words are those of the children passed, and none of them is 0.
 use Prim.Native.Nat.{_-_}
-use native.Mathlib.Omega.{arith}
 use borrow.Author.Needs.{needs}
 use lib.ListN.{length}
-use Rattle.judge_node.proofs.GatherLaws.{Gathering, gather-none, gather-done, gather-zero, next-fits, next-nearer, gather-more}
+use Rattle.judge_node.proofs.GatherLaws.{Gathering, gather-none, gather-done, gather-zero, gather-more}
 use Rattle.judge_node.proofs.gather.Statement.{statement}
 use Rattle.judge_node.proofs.gather.Tie as tie
 
@@ -28,8 +27,8 @@ gather-spec =
     (λ c. search needs)
     (λ c. search needs)
     (λ c κs. search needs)
-    (λ c. search (next-fits, needs))
-    (λ c. search (next-nearer, needs))
+    (λ c. search needs)
+    (λ c. search needs)
     (λ c. search (gather-more, needs))
     (λ c. search needs)
     (λ c. search (gather-done, needs)))

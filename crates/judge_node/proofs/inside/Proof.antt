@@ -2,9 +2,8 @@
 use mathlib.Core.Path.{sym}
 use borrow.Author.Needs.{needs}
 use lib.Seq.{length-take-le}
-use Rattle.judge_node.proofs.InsideLaws.{end-within, end-fits, leaf-inside, child-there, child-room, child-small, child-fits}
-use Rattle.judge_node.proofs.InsideLaws.{lone-inside}
-use Rattle.judge_node.proofs.InsideLaws.{stateless-inside, gathered-within, gathered-words, several-inside}
+use Rattle.judge_node.proofs.InsideLaws.{child-small, leaf-inside, lone-inside, stateless-inside, gathered-within, gathered-words}
+use Rattle.judge_node.proofs.InsideLaws.{several-inside}
 use Rattle.judge_node.proofs.inside.Statement.{statement}
 use Rattle.judge_node.proofs.inside.Tie as tie
 
@@ -15,14 +14,14 @@ inside-spec =
     (λ c κs. search needs)
     (λ c. search (leaf-inside, needs))
     (λ c. search needs)
-    (λ c. search (end-fits, needs))
-    (λ c κs. search (child-room, needs))
-    (λ c. search (child-fits, needs))
     (λ c. search needs)
-    (λ c. search (child-there, needs))
+    (λ c κs. search needs)
+    (λ c. search needs)
+    (λ c. search needs)
+    (λ c. search needs)
     (λ c κs. search (child-small, needs))
     (λ c. search (lone-inside, needs))
-    (λ c κs. search (end-within, needs))
+    (λ c κs. search needs)
     (λ c. search needs)
     (λ c. search needs)
     (λ c. search needs)
@@ -38,6 +37,6 @@ inside-spec =
     let words =
     gathered-words (start .pre) (whole .size-at .ensures) _ (got .gather .ensures) (told .n .given .1) (sizes .before .before .if1 .left)
     (sizes .before .size-at2 .ensures) (sizes .if2 .left) in
-    ((start .pre .indexed, start .pre .rules), words))
+    (start .pre .rules, words))
     (λ c. search needs)
     (λ c. search (several-inside, needs)))

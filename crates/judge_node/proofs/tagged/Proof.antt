@@ -1,6 +1,6 @@
 -- `judge_node::tagged` meets its contract: content that reaches no state, and content that reaches some.
 use borrow.Author.Needs.{needs}
-use Rattle.judge_node.proofs.InsideLaws.{twos-fit, tagged-unreached, tagged-reached}
+use Rattle.judge_node.proofs.InsideLaws.{tagged-unreached, tagged-reached}
 use Rattle.judge_node.proofs.tagged.Statement.{statement}
 use Rattle.judge_node.proofs.tagged.Tie as tie
 
@@ -10,5 +10,5 @@ tagged-spec =
     (tie.spec
     (λ c. search (tagged-unreached, needs))
     (λ c κs. search needs)
-    (λ c. search (twos-fit, needs))
+    (λ c. search needs)
     (λ c. search (tagged-reached, needs)))

@@ -2,7 +2,7 @@
 use native.Mathlib.Omega.{arith}
 use borrow.Author.Needs.{needs}
 use Rattle.model.specs.Answers.{said-judgement, said-refusal}
-use Rattle.judge_run.proofs.EndLaws.{form-shaped, form-some, looks-fit, all-said, two-said}
+use Rattle.judge_run.proofs.RunLaws.{form-shaped, form-some, looks-fit, all-said, two-said}
 use Rattle.judge_run.proofs.judge_nodes.Statement.{statement}
 use Rattle.judge_run.proofs.judge_nodes.Tie as tie
 

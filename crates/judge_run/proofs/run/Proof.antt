@@ -5,8 +5,7 @@ use borrow.Author.Needs.{needs}
 use lib.ListN.{length, replicate}
 use Rattle.model.specs.Index.{rules-in}
 use Rattle.judge_rules.proofs.ContentLaws.{no-words, nothing-found}
-use Rattle.judge_run.proofs.RunLaws.{Running, running-none, running-all, running-room, running-judging, running-two, looks-fit}
-use Rattle.judge_run.proofs.RunLaws.{running-more}
+use Rattle.judge_run.proofs.RunLaws.{Running, running-none, running-all, running-room, running-judging, running-two, running-more}
 use Rattle.judge_run.proofs.run.Statement.{statement}
 use Rattle.judge_run.proofs.run.Tie as tie
 
@@ -34,7 +33,7 @@ run-spec =
     let start = loop .before .before .before .before .before .before .before .before .before in
     let rules = loop .before .before .before .count-rules .ensures in
     let nothing = nothing-found _ (loop .before .content .ensures) in
-    running-judging (start .pre .1 .0) (loop .loop .inv .0) (c .before .before .loop-test .taken) (start .pre .0) rules nothing
+    running-judging (start .pre .1 .0) (loop .loop .inv .0) (c .before .before .loop-test .taken) rules nothing
     (omega (arith, start .pre .1 .1, loop .loop .inv .1)))
     (λ c κs. search needs)
     (λ c κs. search needs)
@@ -54,13 +53,7 @@ run-spec =
     (word .if1 .taken) in
     (two, c .before .before .clear .ensures ∙ ap (λ n. replicate n 0) (loop .loop .inv .0 .long)))
     (λ c κs. search (running-room, needs))
-    (λ c.
-    let judged = c .before .before .before .before .before .before .before .before .before in
-    let loop = judged .before .before .before .before in
-    let start = loop .before .before .before .before .before .before .before .before .before in
-    let word = c .before .before .before .before .before .before in
-    looks-fit (start .pre .1 .0) (loop .loop .inv .0) (judged .before .before .before .loop-test .taken) _ (judged .node .ensures)
-    (word .state-word .ensures))
+    (λ c. search needs)
     (λ c. search needs)
     (λ c.
     let judged = c .before .before .before .before .before .before .before .before .before in

@@ -13,7 +13,7 @@ content-spec =
     (λ c κs. search needs)
     (λ c κs.
     let start = c .before .before .before .before .before .before in
-    let occurs = counted-if (start .pre .0 .1)
+    let occurs = counted-if (start .pre .0)
     (λ l. ⊎-elim (λ w. rw (w .3) (w .2 .ensures)) (λ w. absurd (omega (arith, w .0 .left))) (c .before .if1 .came)) in
-    ((start .pre .0 .0, start .pre .0 .1 .all), (start .pre .1 .0, occurs)))
+    (start .pre .0 .ruled, (start .pre .1 .0, occurs)))
     (λ c. search (several-found, needs)))

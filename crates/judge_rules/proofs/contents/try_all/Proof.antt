@@ -5,7 +5,7 @@ use native.Mathlib.Omega.{arith}
 use borrow.Author.Needs.{needs}
 use Rattle.model.specs.Index.{rules-in}
 use Rattle.judge_order.specs.Order.{states-of}
-use Rattle.judge_rules.proofs.TargetLaws.{head-some, entry-small, entry-room, after-small, after-room, chain-nearer}
+use Rattle.judge_rules.proofs.TargetLaws.{chain-nearer}
 use Rattle.judge_rules.proofs.TryLaws.{look-fits}
 use Rattle.judge_rules.proofs.ContentLaws.{Trying, trying-begun, ends-some, next-content, next-counted, looks-fit, trying-more}
 use Rattle.judge_rules.proofs.ContentLaws.{trying-ended}
@@ -24,17 +24,17 @@ try-all-spec =
     (tie.spec
     Inv-loop
     μ-loop
-    (λ c. search (head-some, needs))
+    (λ c. search needs)
     (λ c κs. search needs)
     (λ c. search (trying-begun, needs))
-    (λ c. search (entry-small, needs))
-    (λ c. search (entry-room, needs))
-    (λ c. search (entry-room, needs))
+    (λ c. search needs)
+    (λ c. search needs)
+    (λ c. search needs)
     (λ c κs. search needs)
     (λ c. search needs)
-    (λ c. search (after-small, needs))
-    (λ c. search (after-room, needs))
-    (λ c. search (after-room, needs))
+    (λ c. search needs)
+    (λ c. search needs)
+    (λ c. search needs)
     (λ c κs. search needs)
     (λ c. search (ends-some, needs))
     (λ c κs. ((search (next-content, needs), search (next-counted, needs)), search needs))
@@ -50,7 +50,7 @@ try-all-spec =
     let here = after .before .before in
     let loop = here .before .before .before in
     let start = loop .before .before .before .before .before .before in
-    trying-more (start .pre .0 .0) (start .pre .0 .1) (loop .loop .inv) (here .before .before .loop-test .taken) refl
+    trying-more (start .pre .0) (loop .loop .inv) (here .before .before .loop-test .taken) refl
     (here .entry-of .ensures .0) refl (after .entry-of2 .ensures .0)
     (here .entry-of .ensures .1) (tried .try-rule .ensures) (c .before .with-if .ensures))
     (λ c. search (trying-ended, needs)))

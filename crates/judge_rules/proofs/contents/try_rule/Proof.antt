@@ -1,9 +1,7 @@
 -- `contents::try_rule` meets its contract, by the rule's map: its parts are where the map says, and both must fit.
 use borrow.Author.Needs.{needs}
-use Rattle.judge_rules.proofs.TryLaws.{map-room, part-fits, part-room, part-before, target-within, order-lent, first-lent}
-use Rattle.judge_rules.proofs.TryLaws.{second-lent}
-use Rattle.judge_rules.proofs.TryLaws.{middle-fits, middle-room, middle-within, middle-before, unordered-tries, unfit-tries}
-use Rattle.judge_rules.proofs.TryLaws.{ordered-tries}
+use Rattle.judge_rules.proofs.TryLaws.{middle-before, middle-room, middle-within, middle-fits, order-lent, first-lent, second-lent}
+use Rattle.judge_rules.proofs.TryLaws.{unordered-tries, unfit-tries, ordered-tries}
 use Rattle.judge_rules.proofs.contents.try_rule.Statement.{statement}
 use Rattle.judge_rules.proofs.contents.try_rule.Tie as tie
 
@@ -11,20 +9,20 @@ pub try-rule-spec : {M : Type 1} → statement M
 try-rule-spec =
     tie.close
     (tie.spec
-    (λ c. search (map-room, needs))
-    (λ c. search (map-room, needs))
+    (λ c. search needs)
+    (λ c. search needs)
     (λ c κs. search needs)
-    (λ c. search (part-fits, needs))
+    (λ c. search needs)
     (λ c κs. search needs)
-    (λ c. search (part-room, needs))
-    (λ c. search (part-before, needs))
-    (λ c. search (part-before, needs))
-    (λ c. search (target-within, needs))
+    (λ c. search needs)
+    (λ c. search needs)
+    (λ c. search needs)
+    (λ c. search needs)
     (λ c κs. search (first-lent, needs))
     (λ c. search (unordered-tries, needs))
     (λ c κs. search needs)
     (λ c. search (middle-fits, needs))
-    (λ c. search (part-room, needs))
+    (λ c. search needs)
     (λ c. search needs)
     (λ c. search needs)
     (λ c. search (middle-within, needs))
@@ -34,7 +32,7 @@ try-rule-spec =
     (λ c. search (middle-room, needs))
     (λ c. search (middle-before, needs))
     (λ c. search (middle-before, needs))
-    (λ c. search (target-within, needs))
+    (λ c. search needs)
     (λ c κs.
     let order = c .before .before .before .before .before .before in
     let start = order .before .before .before .before .before .before .before in

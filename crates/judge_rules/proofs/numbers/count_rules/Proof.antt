@@ -2,13 +2,12 @@
 use Prim.Native.Nat.{_-_}
 use native.Mathlib.Omega.{arith}
 use borrow.Author.Needs.{needs}
-use Rattle.model.specs.Index.{rules-in}
-use Rattle.judge_rules.proofs.KindLaws.{Numbering, numbering-none, ones-fit, twos-fit, counts-fit, numbering-more, numbering-all}
+use Rattle.judge_rules.proofs.KindLaws.{Numbering, numbering-none, numbering-more, numbering-all}
 use Rattle.judge_rules.proofs.numbers.count_rules.Statement.{statement}
 use Rattle.judge_rules.proofs.numbers.count_rules.Tie as tie
 
 abbrev Inv-loop : tie.InvT-loop
-Inv-loop sheet index number ones₀ twos₀ counted₀ i₀ ones twos counted i = Numbering (rules-in sheet) number ones twos counted i
+Inv-loop sheet index number ones₀ twos₀ counted₀ i₀ ones twos counted i = Numbering sheet index number ones twos counted i
 
 abbrev μ-loop : tie.MeasureT-loop
 μ-loop sheet index number ones₀ twos₀ counted₀ i₀ ones twos counted i = number - i
@@ -26,12 +25,12 @@ count-rules-spec =
     (λ c κs. search needs)
     (λ c κs. search needs)
     (λ c κs. search needs)
-    (λ c. search (ones-fit, needs))
+    (λ c. search needs)
     (λ c κs. search needs)
-    (λ c. search (twos-fit, needs))
+    (λ c. search needs)
     (λ c κs. search needs)
     (λ c κs. search needs)
-    (λ c. search (counts-fit, needs))
+    (λ c. search needs)
     (λ c. omega arith)
     (λ c. omega arith)
     (λ c. search (numbering-more, needs))

@@ -1,10 +1,12 @@
 -- `targets::text_targets` meets its contract: so far the set holds what the rules before the i-th give, which has the kind.
-use Prim.Native.Nat.{_-_}
+use mathlib.Core.Path.{refl}
+use Prim.Native.Nat.{_+_, _-_, _<_}
+use native.Mathlib.Omega.{arith}
+use lib.ListN.{length}
 use borrow.Author.Needs.{needs}
-use Rattle.model.specs.Run.{at-text}
+use Rattle.model.specs.Run.{at-text, text-targets}
 use Rattle.model.specs.Index.{rules-in}
-use Rattle.judge_rules.proofs.TargetLaws.{OnChain, text-head, entry-small, entry-room, chain-nearer, texts-begun, text-small}
-use Rattle.judge_rules.proofs.TargetLaws.{text-room, text-added, texts-ended}
+use Rattle.judge_rules.proofs.TargetLaws.{OnChain, chain-nearer, chain-ended, text-rules, targets-begun, target-room, target-added}
 use Rattle.judge_rules.proofs.targets.text_targets.Statement.{statement}
 use Rattle.judge_rules.proofs.targets.text_targets.Tie as tie
 
@@ -14,7 +16,16 @@ Inv-loop sheet index rules kind targets₀ i₀ targets i = OnChain (at-text kin
 abbrev μ-loop : tie.MeasureT-loop
 μ-loop sheet index rules kind targets₀ i₀ targets i = rules - i
 
+-- the target of the rule in hand is in the sheet
+room : (c : tie.After-struct-known Inv-loop μ-loop) → c .before .entry-of .result .begin + 2 < length (c .before .before .before .before .before .before .before .before .before .before .args .sheet .now)
+room c =
+    let loop = c .before .before .before .before in
+    let start = loop .before .before .before .before .before .before in
+    target-room (start .pre .0) (text-rules (start .pre .1)) (loop .loop .inv) (c .before .before .before .loop-test .taken) refl
+    (c .before .entry-of .ensures .0)
+
 pub text-targets-spec : {M : Type 1} → statement M
+unfolding text-targets
 text-targets-spec =
     tie.close
     (tie.spec
@@ -22,17 +33,23 @@ text-targets-spec =
     μ-loop
     (λ c κs. search needs)
     (λ c. search needs)
-    (λ c. search (text-head, needs))
+    (λ c. search needs)
     (λ c κs. search needs)
-    (λ c. search (texts-begun, needs))
-    (λ c. search (entry-small, needs))
-    (λ c. search (entry-room, needs))
-    (λ c. search (entry-room, needs))
+    (λ c.
+    let start = c .before .before .before .before .before in
+    targets-begun (start .pre .0) (text-rules (start .pre .1)) (c .before .before .wide .ensures) refl (c .wide2 .ensures))
+    (λ c. search needs)
+    (λ c. search needs)
+    (λ c. search needs)
     (λ c κs. search needs)
-    (λ c. search (text-small, needs))
-    (λ c. search (text-room, needs))
-    (λ c. search (text-room, needs))
+    (λ c. omega (arith, room c))
+    (λ c. omega (arith, room c))
+    (λ c. room (c .before))
     (λ c κs. search needs)
     (λ c. search (chain-nearer, needs))
-    (λ c. search (text-added, needs))
-    (λ c. search (texts-ended, needs)))
+    (λ c.
+    let loop = c .before .before .before .before .before .before in
+    let start = loop .before .before .before .before .before .before in
+    target-added (start .pre .0) (text-rules (start .pre .1)) (loop .loop .inv) (c .before .before .before .before .before .loop-test .taken) refl
+    (c .before .before .before .entry-of .ensures .0) (c .before .before .before .entry-of .ensures .1) (c .with-if .ensures))
+    (λ c. search (chain-ended, needs)))

@@ -1,11 +1,11 @@
--- `judge_run::clear` meets its contract: so far the words passed are 0.
+-- `judge_states::clear` meets its contract: so far the words passed are 0.
 use Prim.Native.Nat.{_-_}
 use native.Mathlib.Omega.{arith}
 use borrow.Author.Needs.{needs}
 use lib.ListN.{length}
-use Rattle.judge_run.proofs.RunLaws.{Clearing, clearing-none, clearing-more, clearing-all}
-use Rattle.judge_run.proofs.clear.Statement.{statement}
-use Rattle.judge_run.proofs.clear.Tie as tie
+use Rattle.judge_states.proofs.StateLaws.{Clearing, clearing-none, clearing-more, clearing-all}
+use Rattle.judge_states.proofs.clear.Statement.{statement}
+use Rattle.judge_states.proofs.clear.Tie as tie
 
 abbrev Inv-loop : tie.InvT-loop
 Inv-loop states₀ i₀ states i = Clearing states₀ states i

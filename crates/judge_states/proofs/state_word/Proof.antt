@@ -1,9 +1,9 @@
--- `judge_run::state_word` meets its contract: no state, two or more, and one.
+-- `judge_states::state_word` meets its contract: no state, two or more, and one.
 use native.Mathlib.Omega.{arith}
 use borrow.Author.Needs.{needs}
-use Rattle.judge_run.proofs.RunLaws.{word-none, word-several, low-small, word-one}
-use Rattle.judge_run.proofs.state_word.Statement.{statement}
-use Rattle.judge_run.proofs.state_word.Tie as tie
+use Rattle.judge_states.proofs.StateLaws.{word-none, word-several, low-small, word-one}
+use Rattle.judge_states.proofs.state_word.Statement.{statement}
+use Rattle.judge_states.proofs.state_word.Tie as tie
 
 pub state-word-spec : {M : Type 1} → statement M
 state-word-spec =

@@ -1,9 +1,9 @@
--- `judge_run::verdict` meets its contract, by the root's state word.
+-- `judge_states::verdict` meets its contract, by the root's state word.
 use borrow.Author.Needs.{needs}
 use Rattle.model.specs.Answers.{said-judgement}
-use Rattle.judge_run.proofs.RunLaws.{final-stands, root-stuck, root-accepted, root-refused}
-use Rattle.judge_run.proofs.verdict.Statement.{statement}
-use Rattle.judge_run.proofs.verdict.Tie as tie
+use Rattle.judge_states.proofs.StateLaws.{final-stands, root-stuck, root-accepted, root-refused}
+use Rattle.judge_states.proofs.verdict.Statement.{statement}
+use Rattle.judge_states.proofs.verdict.Tie as tie
 
 pub verdict-spec : {M : Type 1} → statement M
 unfolding said-judgement

@@ -1,9 +1,9 @@
--- `judge_run::last_zero` meets its contract: no word that was passed is 0.
+-- `judge_states::last_zero` meets its contract: no word that was passed is 0.
 use native.Mathlib.Omega.{arith}
 use borrow.Author.Needs.{needs}
-use Rattle.judge_run.proofs.RunLaws.{Seeking, seek-start, seek-found, seek-more}
-use Rattle.judge_run.proofs.last_zero.Statement.{statement}
-use Rattle.judge_run.proofs.last_zero.Tie as tie
+use Rattle.judge_states.proofs.StateLaws.{Seeking, seek-start, seek-found, seek-more}
+use Rattle.judge_states.proofs.last_zero.Statement.{statement}
+use Rattle.judge_states.proofs.last_zero.Tie as tie
 
 abbrev Inv-loop : tie.InvT-loop
 Inv-loop states i₀ i = Seeking states i
