@@ -1,10 +1,2 @@
-mod TextLaws
-mod NodeLaws
-mod TagLaws
-mod Stores
-mod Standing
-mod Loops
-mod Lengths
-mod Listing
-mod Passed
+mod PassedLaws
 mod Outcomes

@@ -18,10 +18,13 @@ use Rattle.model.specs.declared.Refusal.the-variants.{LongText, ShortBuffer, Lo
 use Rattle.model.proofs.Answered.{counted, refused, names-refused, tree-refused}
 use Rattle.model.proofs.CheckLaws.{refuses≢passes, passes-inj, then-inv}
 use Rattle.model.proofs.DocumentLaws.{GoodNodes, texts-good}
-use Rattle.writer.specs.Nodes.{measured}
-use Rattle.writer.specs.Forms.{Ready, Puts}
-use Rattle.writer.proofs.Stores.{put-front}
-use Rattle.writer.proofs.Passed.{Passed, passed-measured, passed-stands, passed-form}
+use Rattle.names.specs.Lines.{Indexed}
+use Rattle.write_measure.specs.Lengths.{measured}
+use Rattle.write_bytes.proofs.Stores.{put-front}
+use Rattle.write_form.specs.Forms.{Ready, Puts}
+use Rattle.write_form.specs.declared.Siblings.{Siblings}
+use Rattle.writer.specs.Passed.{Passed}
+use Rattle.writer.proofs.PassedLaws.{passed-measured, passed-stands, passed-form}
 
 -- a check that passes only what another one lets through refuses what that one does
 then-refused : {A B : Type 0} (c : Checked A) (b : B) {m i : ℕ} → (c >> passes b) ≡ refuses m i → c ≡ refuses m i
@@ -29,13 +32,23 @@ unfolding _>>_
 then-refused (passes a) b e = absurd (refuses≢passes (sym e))
 then-refused (refuses n i) b e = cc
 
+-- The checks before 11 have passed, and r is the answer of the pass over the nodes.
+pub record Measured (list starts source tree : List ℕ) (n : ℕ) (r : Answer) : Type 0 where
+  pub passed : Passed list source tree n
+  pub index : Indexed list starts
+  pub answer : said r ≡ answer-of (λ m. m) (measured list source tree (length tree / 4) 0 0)
+
+-- the root alone, of n nodes with what is inside, to the front of a buffer
+abbrev the-root : ℕ → Siblings
+the-root n = record { levels = 32; first = 0; end = n; at = 0 }
+
 module _ (list source tree out : List ℕ) where
   -- the call says r and leaves the buffer `after`
   abbrev pub Says : Answer → List ℕ → Type 0
   Says r after = (said r ≡ write-said list source tree out) × (after ≡ write-out list source tree out)
 
-  says-refusal : {m i : ℕ} (x : Refusal) → said-refusal x ≡ refusal m i → write list source tree (length out) ≡ refuses m i → Says
-      (Error x) out
+  says-refusal : {m i : ℕ} (x : Refusal) → said-refusal x ≡ refusal m i → write list source tree (length out) ≡ refuses m i
+      → Says (Error x) out
   unfolding said write-said write-out answer-of buffer-after
   says-refusal x s e = (s ∙ rw e, rw e)
 
@@ -52,33 +65,33 @@ module _ (list source tree out : List ℕ) where
     unfolding write require _>>_ _>>=_
     says-tree {x = x} short h e = let (i, q, s) = tree-refused g tree h e in says-refusal x s (rw (names, le-leb _ _ short, q))
 
-  -- the checks before 11 have passed, and r is the answer of the pass over the nodes
-  module _ {starts : List ℕ} {g n : ℕ} (p : Passed list starts source tree g n)
-      {r : Answer} (answer : said r ≡ answer-of (λ m. m) (measured list source tree (length tree / 4) 0 0)) where
+  module _ {starts : List ℕ} {n : ℕ} {r : Answer} (m : Measured list starts source tree n r) where
+    abbrev p : Passed list source tree n
+    p = m .passed
+
     pub says-words : {x : Refusal} → r ≡ Error x → Says (Error x) out
     unfolding write require _>>_ _>>=_
     says-words {x} h =
-        let (m, i, q, s) = refused (λ m. m) _ answer h in
-        let t = then-refused (texts-checked source 0 (nodes (p .root))) _ (sym (passed-measured p) ∙ q) in
+        let (k, i, q, s) = refused (λ k. k) _ (m .answer) h in
+        let t = then-refused (texts-checked source 0 (nodes (p .root))) _ (sym (passed-measured p (m .index)) ∙ q) in
         says-refusal x s (rw (p .names, le-leb _ _ (p .short), p .shape, t))
 
     module _ {b : ℕ} (h : r ≡ Count b) where
       pass : (texts-checked source 0 (nodes (p .root)) ≡ passes tt) × (b ≡ length (written list source (p .root)))
       pass =
-          let (a, q, s) = counted (λ m. m) _ answer h in
-          let (u, t, v) = then-inv _ _ (sym (passed-measured p) ∙ q) in
+          let (a, q, s) = counted (λ k. k) _ (m .answer) h in
+          let (u, t, v) = then-inv _ _ (sym (passed-measured p (m .index)) ∙ q) in
           (t, sym s ∙ sym (passes-inj v))
 
       good-nodes : GoodNodes source (nodes (p .root))
       good-nodes = texts-good source 0 (nodes (p .root)) .0 (pass .0)
 
       -- the root is ready to be put
-      pub root-ready : b ≤ length out → Ready list starts source tree out 32 0 n 0
+      pub root-ready : b ≤ length out → Ready list starts source tree out (the-root n)
       root-ready l = record {
         document = p .root · ε;
-        stands = passed-stands p good-nodes;
-        room = rw (passed-form p)
-            (omega (arith, pass .1));
+        stands = passed-stands p (m .index) good-nodes;
+        room = rw (passed-form p) (omega (arith, pass .1));
       }
 
       pub says-long : 65535 < b → Says (Error (LongForm b)) out
@@ -95,10 +108,10 @@ module _ (list source tree out : List ℕ) where
         unfolding write require _>>_ _>>=_ short-enough room-for
         all-pass l = rw (p .names, le-leb _ _ (p .short), p .shape, pass .0, ← pass .1, le-leb _ _ k, ← pass .1, le-leb _ _ l)
 
-        pub says-written : {next : ℕ} {after : List ℕ} → b ≤ length out → Puts list starts source tree 32 0 n out 0 next after → Says
-            (Count b) after
+        pub says-written : {next : ℕ} {after : List ℕ} → b ≤ length out → Puts list starts source tree out (the-root n) next after
+            → Says (Count b) after
         unfolding said write-said write-out answer-of buffer-after
         says-written l puts =
             let w = all-pass l in
-            let q = puts (p .root · ε) (passed-stands p good-nodes) in
+            let q = puts (p .root · ε) (passed-stands p (m .index) good-nodes) in
             (rw (w, pass .1), put-front (rw (passed-form p) at q) (omega (arith, pass .1)) ∙ rw w)

@@ -1,0 +1,3 @@
+mod NodeLaws
+pub mod LengthLaws
+pub mod Listing

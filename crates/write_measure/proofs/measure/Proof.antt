@@ -1,0 +1,59 @@
+-- `write_measure::measure` meets its contract: what is left to measure, with the bytes so far, gives the measure of all.
+use mathlib.Core.Path.{_≡_, sym, _∙_}
+use Prim.Native.Nat.{_-_, _*_, _/_, _≤_, _<_}
+use native.Mathlib.Nat.{sub-zero}
+use native.Mathlib.Omega.{arith}
+use borrow.Author.Tests.{not-true, not-false}
+use borrow.Author.Needs.{needs}
+use lib.ListN.{length}
+use Rattle.model.specs.Answers.{said, said-refusal, answer-of}
+use Rattle.write_nodes.proofs.TagLaws.{tag-short}
+use Rattle.write_measure.specs.Lengths.{measured}
+use Rattle.write_measure.proofs.NodeLaws.{own-bound, measured-end, measured-next, measured-stop, node-tag}
+use Rattle.write_measure.proofs.measure.Statement.{statement}
+use Rattle.write_measure.proofs.measure.Tie as tie
+
+abbrev Inv-loop : tie.InvT-loop
+Inv-loop list starts text tree nodes bytes₀ i₀ bytes i =
+    (i ≤ nodes) × (bytes ≤ 4294967296 * i) × (measured list text tree (length tree / 4) 0 0 ≡ measured list text tree (nodes - i) i bytes)
+
+abbrev μ-loop : tie.MeasureT-loop
+μ-loop list starts text tree nodes bytes₀ i₀ bytes i = nodes - i
+
+-- a node adds less than 2³² bytes
+below : (c : tie.After-own-bytes Inv-loop μ-loop) → c .own-bytes .result < 4294967296
+below c =
+    let tag = node-tag (c .before .before .before .before .before .before .before .before .before .pre)
+    (c .before .before .before .before .loop-test .taken) (c .before .before .before .node-at .ensures) in
+    omega (
+      arith,
+      c .own-bytes .ensures,
+      own-bound (c .before .before .before .before .before .before .before .before .before .args .list .now)
+          (c .before .before .before .node-at .result) (omega arith) (λ a h. tag-short (tag a h)),
+    )
+
+pub measure-spec : {M : Type 1} → statement M
+unfolding said said-refusal answer-of
+measure-spec =
+    tie.close
+    (tie.spec
+    Inv-loop
+    μ-loop
+    (λ c. (search needs, search needs, rw sub-zero))
+    (λ c κs. search needs)
+    (λ c κs. search needs)
+    (λ c. rw (c .before .before .before .before .loop .inv .2 ∙ measured-stop _ _ _ _ _ _ (c .before .before .before .loop-test .taken)
+    (c .before .before .node-at .ensures) (sym (c .before .good-words .ensures) ∙ not-true _ (c .if1 .taken))))
+    (λ c κs. node-tag (c .before .before .before .before .before .before .before .before .pre) (c .before .before .before .loop-test .taken)
+    (c .before .before .node-at .ensures))
+    (λ c. omega (arith, below c, c .before .before .before .before .before .before .before .before .before .pre .few))
+    (λ c. search needs)
+    (λ c. search needs)
+    (λ c. (
+      search needs,
+      omega (arith, below c),
+      c .before .before .before .before .before .loop .inv .2 ∙ measured-next _ _ _ _ _ _
+          (c .before .before .before .before .loop-test .taken) (c .before .before .before .node-at .ensures)
+          (sym (c .before .before .good-words .ensures) ∙ not-false _ (c .before .if1 .left)) (c .own-bytes .ensures),
+    ))
+    (λ c. rw (c .before .loop .inv .2 ∙ measured-end _ _ _ _ _ _ (c .loop-test .left))))
