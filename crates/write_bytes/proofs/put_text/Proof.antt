@@ -15,11 +15,7 @@ put-text-spec =
     (λ c. search needs)
     (λ c. search needs)
     (λ c. search needs)
-    (λ c κs. rw (
-      source-part _ (span-of (c .before .before .before .before .before .before .args .node)),
-      source-length _ (span-of (c .before .before .before .before .before .before .args .node))
-          (c .before .before .before .before .before .before .pre .0),
-    ) (c .before .before .before .before .before .before .pre .1))
+    (λ c κs. search (source-part, source-length, needs))
     (λ c. search needs)
     (λ c. rw (source-part _ (span-of (c .before .before .before .before .before .before .before .before .before .args .node)))
     at (c .before .before .put .ensures)))

@@ -17,4 +17,4 @@ good-text-spec =
     (λ c. search needs)
     (λ c κs. search needs)
     (λ c κs. search needs)
-    (λ c. good-here _ _ _ (c .before .before .before .if1 .left) (c .before .trimmed .ensures) (c .kind-of .ensures)))
+    (λ c. search (good-here, needs)))

@@ -36,11 +36,7 @@ trimmed-spec =
     (λ c κs. search needs)
     (λ c. search needs)
     (λ c. search needs)
-    (λ c. (
-      search needs,
-      flag-next text-byte _ _ (c .before .before .before .loop .good) (c .before .before .before .loop .inv .1)
-          (c .before .before .loop-test .taken) (c .in-text .ensures),
-    ))
+    (λ c. search (flag-next, needs))
     (λ c. sym (trimmed-solid _ (omega arith)
     (rw (c .before .before .before .before .before .is-white .ensures, c .before .before .before .is-white2 .ensures)
     at (c .before .before .if2 .left)) ∙ flag-end text-byte _ _ (c .before .loop .good) (c .before .loop .inv .1)
