@@ -1,16 +1,18 @@
 -- A node's own bytes of the form, and the pass over the nodes.
-use mathlib.Core.Path.{_≡_, refl}
+use mathlib.Core.Path.{_≡_, refl, _∙_}
 use mathlib.Core.Logic.{_≢_}
-use mathlib.Core.Bool.{true, false}
+use mathlib.Core.Bool.{Bool, true, false, not}
 use mathlib.Core.List.{List}
 use Prim.Native.Nat.{ℕ, suc, _+_, _-_, _*_, _/_, _≤_, _<_}
 use native.Mathlib.Omega.{arith}
-use borrow.Author.Tests.{eqb-true, eqb-false, eq-eqb, ne-eqb}
+use borrow.Author.Tests.{eqb-true, eqb-false, eq-eqb, ne-eqb, not-true, not-false}
 use lib.Dec.{eqb}
 use lib.ListN.{length}
-use Rattle.model.specs.Answers.{passes, refuses}
+use Rattle.model.specs.Answers.{said, said-refusal, Checked, answer-of}
 use Rattle.model.specs.Names.{name-of}
 use Rattle.model.specs.Tree.{Symbol, of-tag, of-text, of-nothing, symbol-of}
+use Rattle.model.specs.declared.Answer.the-variants.{Count, Error}
+use Rattle.model.specs.declared.Refusal.the-variants.{TextWords}
 use Rattle.model.proofs.Tests.{Told, yea, nay, told}
 use Rattle.write_nodes.specs.Nodes.{node-at, TagOf}
 use Rattle.write_nodes.specs.declared.Node.{Node}
@@ -45,22 +47,24 @@ module _ (list : List ℕ) (n : Node) where
       go (of-tag a) s (yea e) = omega (arith, own-empty s (eqb-true _ _ e), k a s)
       go (of-tag a) s (nay e) = omega (arith, own-pair s (eqb-false _ _ e), k a s)
 
--- ---- the nodes from node i on, of which there are count
+-- ---- the nodes from node i on, of which there are count, give the measure of all
 
-module _ (list text tree : List ℕ) (count i sum : ℕ) where
-  pub measured-end : count ≤ i → measured list text tree (count - i) i sum ≡ passes sum
-  unfolding measured
-  measured-end h = let z : count - i ≡ 0 = omega arith in rw z
+module _ (list text tree : List ℕ) (count i sum : ℕ) {all : Checked ℕ} (left : all ≡ measured list text tree (count - i) i sum) where
+  pub measured-end : count ≤ i → said (Count sum) ≡ answer-of (λ n. n) all
+  unfolding measured said answer-of
+  measured-end h = let z : count - i ≡ 0 = omega arith in rw (left, z)
 
-  module _ (h : i < count) {n : Node} (is : n ≡ node-at tree i) where
-    pub measured-next : {own : ℕ} → good-node text n ≡ true → own ≡ own-bytes list n
-        → measured list text tree (count - i) i sum ≡ measured list text tree (count - (i + 1)) (i + 1) (sum + own)
+  module _ (h : i < count) {n : Node} (is : n ≡ node-at tree i) {good : Bool} (e : good ≡ good-node text n) where
+    pub measured-next : {own : ℕ} → not good ≡ false → own ≡ own-bytes list n
+        → all ≡ measured list text tree (count - (i + 1)) (i + 1) (sum + own)
     unfolding measured
-    measured-next e f = let z : count - i ≡ suc (count - (i + 1)) = omega arith in rw (z, ← is, e, f)
+    measured-next k f =
+        let z : count - i ≡ suc (count - (i + 1)) = omega arith in
+        left ∙ rw (z, ← is, ← e, not-false good k, f)
 
-    pub measured-stop : good-node text n ≡ false → measured list text tree (count - i) i sum ≡ refuses 11 i
-    unfolding measured
-    measured-stop e = let z : count - i ≡ suc (count - (i + 1)) = omega arith in rw (z, ← is, e)
+    pub measured-stop : not good ≡ true → said (Error (TextWords i)) ≡ answer-of (λ n. n) all
+    unfolding measured said said-refusal answer-of
+    measured-stop k = let z : count - i ≡ suc (count - (i + 1)) = omega arith in rw (left, z, ← is, ← e, not-true good k)
 
 -- the tag of node i, where it is one
 pub node-tag : {list starts tree : List ℕ} {i : ℕ} {n : Node} → Tags list starts tree → i < length tree / 4 → n ≡ node-at tree i

@@ -1,12 +1,10 @@
 -- `write_measure::measure` meets its contract: what is left to measure, with the bytes so far, gives the measure of all.
-use mathlib.Core.Path.{_≡_, sym, _∙_}
+use mathlib.Core.Path.{_≡_}
 use Prim.Native.Nat.{_-_, _*_, _/_, _≤_, _<_}
 use native.Mathlib.Nat.{sub-zero}
 use native.Mathlib.Omega.{arith}
-use borrow.Author.Tests.{not-true, not-false}
 use borrow.Author.Needs.{needs}
 use lib.ListN.{length}
-use Rattle.model.specs.Answers.{said, said-refusal, answer-of}
 use Rattle.write_nodes.proofs.TagLaws.{tag-short}
 use Rattle.write_measure.specs.Lengths.{measured}
 use Rattle.write_measure.proofs.NodeLaws.{own-bound, measured-end, measured-next, measured-stop, node-tag}
@@ -33,7 +31,6 @@ below c =
     )
 
 pub measure-spec : {M : Type 1} → statement M
-unfolding said said-refusal answer-of
 measure-spec =
     tie.close
     (tie.spec
@@ -42,18 +39,10 @@ measure-spec =
     (λ c. (search needs, search needs, rw sub-zero))
     (λ c κs. search needs)
     (λ c κs. search needs)
-    (λ c. rw (c .before .before .before .before .loop .inv .2 ∙ measured-stop _ _ _ _ _ _ (c .before .before .before .loop-test .taken)
-    (c .before .before .node-at .ensures) (sym (c .before .good-words .ensures) ∙ not-true _ (c .if1 .taken))))
-    (λ c κs. node-tag (c .before .before .before .before .before .before .before .before .pre) (c .before .before .before .loop-test .taken)
-    (c .before .before .node-at .ensures))
+    (λ c. search (measured-stop, needs))
+    (λ c κs. search (node-tag, needs))
     (λ c. omega (arith, below c, c .before .before .before .before .before .before .before .before .before .pre .few))
     (λ c. search needs)
     (λ c. search needs)
-    (λ c. (
-      search needs,
-      omega (arith, below c),
-      c .before .before .before .before .before .loop .inv .2 ∙ measured-next _ _ _ _ _ _
-          (c .before .before .before .before .loop-test .taken) (c .before .before .before .node-at .ensures)
-          (sym (c .before .before .good-words .ensures) ∙ not-false _ (c .before .if1 .left)) (c .own-bytes .ensures),
-    ))
-    (λ c. rw (c .before .loop .inv .2 ∙ measured-end _ _ _ _ _ _ (c .loop-test .left))))
+    (λ c. (search needs, omega (arith, below c), search (measured-next, needs)))
+    (λ c. search (measured-end, needs)))
