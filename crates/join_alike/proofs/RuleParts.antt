@@ -2,7 +2,7 @@
 use mathlib.Core.Path.{_≡_, refl, sym, ap, ap₂, _∙_}
 use mathlib.Core.Bool.{Bool, true, false}
 use mathlib.Core.List.{List}
-use mathlib.Core.Option.{Option, none, some}
+use mathlib.Core.Option.{Option, some}
 use Prim.Native.Nat.{ℕ, _+_, _≤_, _<_}
 use native.Mathlib.Omega.{arith}
 use lib.ListN.{length, getD, length-map}
@@ -11,8 +11,7 @@ use Rattle.model.specs.Spans.{OrderAt, CountAt, RuleAt, there-is, ordered, coun
 use Rattle.model.specs.Index.{sheet-in, key}
 use Rattle.model.proofs.PartLaws.{word-is}
 use Rattle.model.proofs.RuleWords.{order-room, is-there, not-there, is-ordered, is-counted, order-at, count-stands, target-there}
-use Rattle.model.proofs.RuleWords.{rule-there}
-use Rattle.model.proofs.RuleWords.{text-key, tag-key}
+use Rattle.model.proofs.RuleWords.{rule-there, text-key, tag-key}
 use Rattle.parts.specs.Lengths.{order-length, key-by}
 use Rattle.parts.proofs.LengthLaws.{key-of-rule}
 use Rattle.join_alike.specs.declared.Spot.{Spot}
@@ -21,15 +20,11 @@ use Rattle.join_alike.specs.Spots.{rule-of, SpotOf, parts-of}
 module _ {p a : ℕ} {s : List ℕ} where
   -- ---- the map
 
-  rule-ordered : (x : Rule) → RuleAt p s a x → there-is (parts-of x .order) ≡ ordered (getD s a 0)
-  rule-ordered (one k q) h = sym (ap ordered (text-key h .0))
-  rule-ordered (two g c q) h = sym (ap ordered (tag-key h .0))
-  rule-ordered (three o φ q) h = is-ordered h refl
-
-  rule-counted : (x : Rule) → RuleAt p s a x → there-is (parts-of x .count) ≡ counted (getD s a 0)
-  rule-counted (one k q) h = sym (ap counted (text-key h .0))
-  rule-counted (two g c q) h = sym (ap counted (tag-key h .0))
-  rule-counted (three o φ q) h = is-counted h refl
+  parts-told : (x : Rule) → RuleAt p s a x
+      → (there-is (parts-of x .order) ≡ ordered (getD s a 0)) × (there-is (parts-of x .count) ≡ counted (getD s a 0))
+  parts-told (one k q) h = rw (text-key h .0) (refl, refl)
+  parts-told (two g c q) h = rw (tag-key h .0) (refl, refl)
+  parts-told (three o φ q) h = (is-ordered h refl, is-counted h refl)
 
   -- ---- the order part
 
@@ -59,12 +54,8 @@ module _ {p a : ℕ} {s : List ℕ} where
   target-is : (x : Rule) → RuleAt p s a x → (t : ℕ) → t + 1 ≡ a + length (rule-words p x)
       → (getD s t 0 ≡ parts-of x .target) × (parts-of x .target < p)
   unfolding rule-words
-  target-is (one k q) h t e =
-      let i : t ≡ a + 2 = omega arith in
-      (ap (λ (i : ℕ). getD s i 0) i ∙ word-is (h .there) 2 (omega arith), h .ranges .2)
-  target-is (two g c q) h t e =
-      let i : t ≡ a + 3 = omega arith in
-      (ap (λ (i : ℕ). getD s i 0) i ∙ word-is (h .there) 3 (omega arith), h .ranges .3)
+  target-is (one k q) h t e = let i : t ≡ a + 2 = omega arith in (rw i (word-is (h .there) 2 (omega arith)), h .ranges .2)
+  target-is (two g c q) h t e = let i : t ≡ a + 3 = omega arith in (rw i (word-is (h .there) 3 (omega arith)), h .ranges .3)
   target-is (three o φ q) h t e = (target-there h e .1, h .ranges .2)
 
 -- ---- the rule of a spot
@@ -77,10 +68,10 @@ module _ {s : List ℕ} {x : Spot} (h : SpotOf s x) where
   spot-there = rule-there (h .begins) .0
 
   pub with-order : {w : ℕ} {r : Bool} → w ≡ getD s (x .at) 0 → r ≡ ordered w → r ≡ there-is (parts-of rule .order)
-  with-order e f = f ∙ ap ordered e ∙ sym (rule-ordered rule (h .begins))
+  with-order e f = f ∙ ap ordered e ∙ sym (parts-told rule (h .begins) .0)
 
   pub with-count : {w : ℕ} {r : Bool} → w ≡ getD s (x .at) 0 → r ≡ counted w → r ≡ there-is (parts-of rule .count)
-  with-count e f = f ∙ ap counted e ∙ sym (rule-counted rule (h .begins))
+  with-count e f = f ∙ ap counted e ∙ sym (parts-told rule (h .begins) .1)
 
   -- where the count part stands, or would stand
   module _ {r : Bool} (e : r ≡ there-is (parts-of rule .order)) where

@@ -1,5 +1,5 @@
 -- The spot of a rule, by the index of its sheet.
-use mathlib.Core.Path.{_≡_, refl, ap, _∙_}
+use mathlib.Core.Path.{_≡_, refl, ap}
 use mathlib.Core.List.{List}
 use Prim.Native.Nat.{ℕ, _+_, _-_, _%_, _^_, _<_}
 use native.Mathlib.Omega.{arith}
@@ -26,14 +26,8 @@ spot-found {s} h {k} l {x} e =
     }
 
 -- the entry after ENTRIES + k, as the code reads it
-pub spot-made : (index : List ℕ) (k : ℕ) {v w a b t : ℕ} → v ≡ getD index (67 + k) 0 → w ≡ getD index (68 + k) 0 → a ≡ v % 2 ^ 16 → b
-    ≡ w % 2 ^ 16 → t ≡ b - 1
-    → SpotIn index k (record { rule = k; at = a; target = t })
+pub spot-made : (index : List ℕ) (k : ℕ) {v w a b t : ℕ} → v ≡ getD index (67 + k) 0 → w ≡ getD index (68 + k) 0
+    → a ≡ v % 2 ^ 16 → b ≡ w % 2 ^ 16 → t ≡ b - 1 → SpotIn index k (record { rule = k; at = a; target = t })
 spot-made index k ev ew ea eb et =
     let same : 68 + k ≡ 67 + (k + 1) = omega arith in
-    record {
-      rule = refl;
-      at = ea ∙ ap (λ (v : ℕ). v % 2 ^ 16) ev;
-      target = et ∙ ap (λ (w : ℕ). w - 1)
-          (eb ∙ ap (λ (w : ℕ). w % 2 ^ 16) (rw same at ew));
-    }
+    record { rule = refl; at = rw (ea, ev); target = rw (et, eb, ew, same) }

@@ -10,7 +10,7 @@ use Rattle.model.specs.Sheet.{Coefficient, Step, at-most, remainder, not-step, 
 use Rattle.model.specs.Sheet.{W, signed-word, set-words, sum-words, step-words, SumInRange}
 use Rattle.model.specs.Compose.{Side, Sizes, of-pairs, lift-sum, lift-step}
 use Rattle.model.specs.Spans.{WordsAt, SumAt, StepAt}
-use Rattle.model.proofs.Spans.{word-there, word-here, word-next, span-left, span-right}
+use Rattle.model.proofs.Spans.{word-here, word-next, span-left, span-right}
 use Rattle.model.proofs.PartLaws.{words-from, words-within}
 use Rattle.parts.specs.Lengths.{step-length}
 use Rattle.join_pairs.specs.Sides.{side-of}

@@ -1,20 +1,18 @@
 -- The words of a sum, and of a lifted one.
-use mathlib.Core.Path.{_≡_, refl, sym, ap, ap₂, _∙_, subst}
-use mathlib.Core.Bool.{Bool, true, false, _&&_, and-true, false≢true}
-use mathlib.Core.List.{List, [], _∷_, _++_, map, flatMap, List·Memᴰ·head, List·Memᴰ·tail, List·Memᴰ·not-nil}
+use mathlib.Core.Path.{_≡_, refl, sym, ap, ap₂, _∙_}
+use mathlib.Core.Bool.{Bool, true, false, cond, and-true, false≢true}
+use mathlib.Core.List.{List, [], _∷_, _++_, map, flatMap, List·Memᴰ·head, List·Memᴰ·tail}
 use Prim.Native.Nat.{ℕ, zero, suc, _+_, _-_, _*_, _/_, _%_, _^_, _≤_, _<_}
 use native.Mathlib.Omega.{arith}
 use lib.Arith.{digits-lt}
 use lib.Dec.{eqb}
 use lib.ListN.{length, getD, length-map}
-use lib.Seq.{slice}
 use Rattle.model.specs.Lists.{_∈_, has, only, from, numbers, row, grid, Ascending, SetBelow}
-use Rattle.model.specs.Sheet.{W, mask, set-words, bit, members, Coefficient, signed-word, marks, sum-words, SumInRange}
-use Rattle.model.specs.Compose.{pair, Side, S, T, half, Sizes, coefficient-of, lift-sum}
+use Rattle.model.specs.Sheet.{W, mask, set-words, bit, members, Coefficient, signed-word, marks, sum-words}
+use Rattle.model.specs.Compose.{pair, Side, S, T, half, Sizes, coefficient-of, lift-sum, of-side, of-pairs}
 use Rattle.model.proofs.Tests.{Told, yea, nay, told, same, eqb-yes, eqb-no, eqb-false}
-use Rattle.model.proofs.ListLaws.{∈-has, has-∈, has-no, ∈-map, map-∈, map-each, each-append, ∈-each, each-∈, ∈-only, only-test, only-eq}
-use Rattle.model.proofs.ListLaws.{from-∈, ∈-numbers, ∈-filter, numbers-<, grid-∈, asc-ext, asc-from, asc-grid}
-use Rattle.model.specs.Compose.{of-side, of-pairs}
+use Rattle.model.proofs.ListLaws.{∈-has, has-∈, has-no, map-each, each-append}
+use Rattle.model.proofs.ListLaws.{∈-numbers, ∈-filter, numbers-<, grid-∈, asc-ext, asc-from, asc-filter, asc-grid}
 use Rattle.model.proofs.Pairs.{either, half-pair, half-below, ∈-pairs}
 use Rattle.model.proofs.JoinRange.{lifted-marks}
 use Rattle.model.proofs.SetWords.{bit-mask}
@@ -71,7 +69,7 @@ abbrev states : Sizes → Side → List ℕ
 states n side = numbers (of-side side n)
 
 -- one row for each state of S, in which T's state goes through all of them
-module _ (n : Sizes) (some : 1 ≤ n .of-T) where
+module _ (n : Sizes) where
   row-by-row : numbers (of-pairs n) ≡ grid (pair (n .of-T)) (states n S) (states n T)
   row-by-row =
       asc-ext _ _ (asc-from (of-pairs n) 0)
@@ -91,74 +89,63 @@ module _ (n : Sizes) (some : 1 ≤ n .of-T) where
       ∙ each-grid (λ x. f (half side (n .of-T) x)) (n .of-T) (states n S) (states n T)
       ∙ each-like _ _ (states n S) (λ s _. each-like _ _ (states n T) (λ t m. ap f (half-pair side (either s t) (numbers-< (n .of-T) m))))
 
--- ---- the coefficient of a state
+-- ---- the coefficients of a sum, state by state
 
 abbrev pub times-words : List Coefficient → List ℕ
 times-words cs = map (λ c. signed-word (c .times)) cs
 
--- the words of the coefficients of state q: one or none
-times-at : List Coefficient → ℕ → List ℕ
-times-at cs q = flatMap (λ c. only (eqb (c .state) q) (signed-word (c .times))) cs
+-- the word of the first coefficient of state q; alone, if q is marked
+times-at : List Coefficient → ℕ → ℕ
+times-at [] q = 0
+times-at (c ∷ cs) q = cond (eqb (c .state) q) (signed-word (c .times)) (times-at cs q)
 
-times-of : (cs : List Coefficient) (q x : ℕ) → times-words (coefficient-of cs q x) ≡ times-at cs q
-unfolding coefficient-of times-at only
-times-of cs q x = map-each (λ (c : Coefficient). signed-word (c .times)) _ cs ∙ each-like _ _ cs (λ c _. go (eqb (c .state) q) c)
+abbrev if-marked : List Coefficient → ℕ → List ℕ
+if-marked cs q = only (has (marks cs) q) (times-at cs q)
+
+times-of : (cs : List Coefficient) (q x : ℕ) → Ascending (marks cs) → times-words (coefficient-of cs q x) ≡ if-marked cs q
+unfolding coefficient-of flatMap has only times-at
+times-of [] q x asc = refl
+times-of (c ∷ cs) q x (above, asc) = go (told (eqb (c .state) q)) (times-of cs q x asc)
   where
-    go : (b : Bool) (c : Coefficient) → times-words (only b (record { state = x; times = c .times })) ≡ only b (signed-word (c .times))
-    go true c = refl
-    go false c = refl
+    go : Told (eqb (c .state) q) → times-words (coefficient-of cs q x) ≡ if-marked cs q
+        → times-words (coefficient-of (c ∷ cs) q x) ≡ if-marked (c ∷ cs) q
+    go (yea e) rest =
+        let i : c .state ≡ q = same (c .state) q e in
+        let none : has (marks cs) q ≡ false = has-no (λ m. let l = above q m in absurd (omega arith)) in
+        rw (e, eqb-yes (sym i)) (ap (λ (ws : List ℕ). signed-word (c .times) ∷ ws) (rest ∙ rw none))
+    go (nay e) rest = rw (e, eqb-false {m = q} {n = c .state} (λ i. eqb-no e (sym i))) rest
 
-times-none : (cs : List Coefficient) (q : ℕ) → (q ∈ marks cs → ⊥) → times-at cs q ≡ []
-unfolding times-at flatMap only
-times-none [] q h = refl
-times-none (c ∷ cs) q h =
-    let e : eqb (c .state) q ≡ false = eqb-false (λ e. h (List·Memᴰ·head (sym e))) in
-    rw e (times-none cs q (λ m. h (List·Memᴰ·tail m)))
-
--- f of the words at each of k states from a on is f of each word, where the coefficients are of those states and ascend
+-- f of the word, if there is one, at each of k states is f of each word, where the coefficients are of those states and ascend
 module _ (f : List ℕ → List ℕ) (empty : f [] ≡ []) where
-  each-state : (k a : ℕ) (cs : List Coefficient) → Ascending (marks cs) → ((q : ℕ) → q ∈ marks cs → (a ≤ q) × (q < a + k))
-      → flatMap (λ q. f (times-at cs q)) (from k a) ≡ flatMap (λ w. f (w ∷ [])) (times-words cs)
-  unfolding flatMap from times-at only
-  each-state zero a [] asc h = refl
-  each-state zero a (c ∷ cs) asc h = let (l, m) = h (c .state) (List·Memᴰ·head refl) in absurd (omega arith)
-  each-state (suc k) a [] asc h = ap₂ (_++_) empty (each-state k (suc a) [] tt (λ q m. absurd (List·Memᴰ·not-nil m)))
-  each-state (suc k) a (c ∷ cs) (above, asc) h =
-      go (told (eqb (c .state) a)) (λ b. each-state k (suc a) cs asc b) (λ b. each-state k (suc a) (c ∷ cs) (above, asc) b)
+  each-only : (b : ℕ → Bool) (v : ℕ → ℕ) (l : List ℕ)
+      → flatMap (λ q. f (only (b q) (v q))) l ≡ flatMap (λ q. f (v q ∷ [])) (flatMap (λ q. only (b q) q) l)
+  unfolding flatMap only
+  each-only b v [] = refl
+  each-only b v (q ∷ l) = go (b q) (each-only b v l)
     where
-      w : ℕ
-      w = signed-word (c .times)
+      go : (t : Bool) → flatMap (λ q. f (only (b q) (v q))) l ≡ flatMap (λ q. f (v q ∷ [])) (flatMap (λ q. only (b q) q) l)
+          → f (only t (v q)) ++ flatMap (λ q. f (only (b q) (v q))) l
+          ≡ flatMap (λ q. f (v q ∷ [])) (only t q ++ flatMap (λ q. only (b q) q) l)
+      go true rest = ap (λ (ws : List ℕ). f (v q ∷ []) ++ ws) rest
+      go false rest = ap₂ (_++_) empty rest
 
-      Bounds : List Coefficient → Type 0
-      Bounds ds = (q : ℕ) → q ∈ marks ds → (suc a ≤ q) × (q < suc a + k)
+  each-mark : (cs : List Coefficient) → Ascending (marks cs)
+      → flatMap (λ q. f (times-at cs q ∷ [])) (marks cs) ≡ flatMap (λ w. f (w ∷ [])) (times-words cs)
+  unfolding flatMap times-at
+  each-mark [] asc = refl
+  each-mark (c ∷ cs) (above, asc) =
+      rw (eqb-yes {m = c .state} {n = c .state} refl)
+      (ap (λ (ws : List ℕ). f (signed-word (c .times) ∷ []) ++ ws)
+      (each-like _ _ (marks cs) (λ q m. let l = above q m in rw (eqb-false {m = c .state} {n = q} (λ e. omega arith))) ∙ each-mark cs asc))
 
-      Rest : List Coefficient → Type 0
-      Rest ds = flatMap (λ q. f (times-at ds q)) (from k (suc a)) ≡ flatMap (λ w. f (w ∷ [])) (times-words ds)
-
-      lowest : (q : ℕ) → q ∈ marks (c ∷ cs) → c .state ≤ q
-      lowest q (List·Memᴰ·head e) = omega arith
-      lowest q (List·Memᴰ·tail m) = let l = above q m in omega arith
-
-      go : Told (eqb (c .state) a) → (Bounds cs → Rest cs) → (Bounds (c ∷ cs) → Rest (c ∷ cs))
-          → f (times-at (c ∷ cs) a) ++ flatMap (λ q. f (times-at (c ∷ cs) q)) (from k (suc a))
-          ≡ f (w ∷ []) ++ flatMap (λ w. f (w ∷ [])) (times-words cs)
-      go (yea e) rest all =
-          let first : c .state ≡ a = same (c .state) a e in
-          let here : times-at (c ∷ cs) a ≡ w ∷ [] = rw (e, times-none cs a (λ m. let l = above a m in absurd (omega arith))) in
-          let later : flatMap (λ q. f (times-at (c ∷ cs) q)) (from k (suc a)) ≡ flatMap (λ q. f (times-at cs q)) (from k (suc a))
-          = each-like _ _ (from k (suc a)) (λ q m.
-          let (l, _) = from-∈ k (suc a) m in
-          let other : eqb (c .state) q ≡ false = eqb-false {m = c .state} {n = q} (λ i. omega arith) in
-          rw other) in
-          ap₂ (_++_) (ap f here)
-          (later ∙ rest (λ q m. let l = above q m in let (_, u) = h q (List·Memᴰ·tail m) in (omega arith, omega arith)))
-      go (nay e) rest all =
-          let (low, _) = h (c .state) (List·Memᴰ·head refl) in
-          let later : a < c .state = omega (arith, eqb-no {m = c .state} {n = a} e) in
-          let none : times-at (c ∷ cs) a ≡ [] = times-none (c ∷ cs) a (λ m. let l = lowest a m in absurd (omega arith)) in
-          let ws = flatMap (λ q. f (times-at (c ∷ cs) q)) (from k (suc a)) in
-          ap (λ (v : List ℕ). v ++ ws) (ap f none ∙ empty)
-          ∙ all (λ q m. let l = lowest q m in let (_, u) = h q m in (omega arith, omega arith))
+  each-state : {k : ℕ} (cs : List Coefficient) → SetBelow k (marks cs)
+      → flatMap (λ q. f (if-marked cs q)) (numbers k) ≡ flatMap (λ w. f (w ∷ [])) (times-words cs)
+  each-state {k} cs h =
+      let l = marks cs in
+      let marked : flatMap (λ q. only (has l q) q) (numbers k) ≡ l
+      = asc-ext _ l (asc-filter (has l) k .ascends) (h .ascends) (λ q m. has-∈ l (∈-filter (has l) k q .0 m .1))
+      (λ q m. ∈-filter (has l) k q .1 (h .below q m, ∈-has m)) in
+      each-only (has l) (times-at cs) (numbers k) ∙ ap (flatMap (λ q. f (times-at cs q ∷ []))) marked ∙ each-mark cs (h .ascends)
 
 -- ---- the words of a sum
 
@@ -221,26 +208,22 @@ abbrev pub lifted-times : Side → Sizes → List ℕ → List ℕ
 lifted-times S n ws = repeated-each (n .of-T) ws
 lifted-times T n ws = repeated (n .of-S) ws
 
-module _ (n : Sizes) (some : 1 ≤ n .of-T) (cs : List Coefficient) where
+module _ (n : Sizes) (cs : List Coefficient) where
   by-state : (side : Side) → SetBelow (of-side side n) (marks cs)
-      → lifted-times side n (times-words cs) ≡ flatMap (λ x. times-at cs (half side (n .of-T) x)) (numbers (of-pairs n))
+      → flatMap (λ x. if-marked cs (half side (n .of-T) x)) (numbers (of-pairs n)) ≡ lifted-times side n (times-words cs)
   by-state S h =
-      sym (each-half n some (times-at cs) S ∙ each-like _ _ (states n S) (λ s _. each-repeated (times-at cs s) (n .of-T) 0)
-      ∙ each-state (repeated (n .of-T)) (repeated-empty (n .of-T)) (n .of-S) 0 cs (h .ascends)
-      (λ q m. (omega arith, omega (arith, h .below q m))))
+      each-half n (if-marked cs) S ∙ each-like _ _ (states n S) (λ s _. each-repeated (if-marked cs s) (n .of-T) 0)
+      ∙ each-state (repeated (n .of-T)) (repeated-empty (n .of-T)) cs h
   by-state T h =
-      sym (each-half n some (times-at cs) T ∙ each-repeated (flatMap (times-at cs) (states n T)) (n .of-S) 0
-      ∙ ap (repeated (n .of-S))
-      (each-state (λ ws. ws) refl (n .of-T) 0 cs (h .ascends) (λ q m. (omega arith, omega (arith, h .below q m)))
-      ∙ each-self (times-words cs)))
+      each-half n (if-marked cs) T ∙ each-repeated (flatMap (if-marked cs) (states n T)) (n .of-S) 0
+      ∙ ap (repeated (n .of-S)) (each-state (λ ws. ws) refl cs h ∙ each-self (times-words cs))
 
   times-lifted : (side : Side) → SetBelow (of-side side n) (marks cs)
       → lifted-times side n (times-words cs) ≡ times-words (lift-sum side n cs)
   unfolding lift-sum
   times-lifted side h =
-      by-state side h ∙ each-like _ _ (numbers (of-pairs n)) (λ x _. sym (times-of cs (half side (n .of-T) x) x))
-      ∙ sym (map-each (λ (c : Coefficient). signed-word (c .times)) (λ x. coefficient-of cs (half side (n .of-T) x) x)
-      (numbers (of-pairs n)))
+      sym (map-each (λ (c : Coefficient). signed-word (c .times)) (λ x. coefficient-of cs (half side (n .of-T) x) x) (numbers (of-pairs n))
+      ∙ each-like _ _ (numbers (of-pairs n)) (λ x _. times-of cs (half side (n .of-T) x) x (h .ascends)) ∙ by-state side h)
 
 -- the marks: the pairs of which one half is in a set and the other any number below 64
 abbrev lifted-set : Side → Sizes → ℕ → ℕ
@@ -268,4 +251,4 @@ lifted-sum-words side {n} few {x = x} {cs} h {set} e =
     = λ y l. bit-mark h (half side (n .of-T) y) (half-below side n l) ∙ has-lifted side n cs (h .ranges .marked .ascends) l in
     let all : set ≡ mask (of-pairs n) (has (marks (lift-sum side n cs)))
     = e ∙ set-lifted few (x .marks) side ∙ mask-like (of-pairs n) _ _ marked in
-    rw (all, h .words, times-lifted n (few .some-T) cs side (h .ranges .marked))
+    rw (all, h .words, times-lifted n cs side (h .ranges .marked))

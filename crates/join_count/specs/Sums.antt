@@ -1,6 +1,6 @@
 -- The steps of two count parts in one.
 use mathlib.Core.List.{List, [], _∷_, _++_, map}
-use Prim.Native.Nat.{ℕ, _+_, _-_}
+use Prim.Native.Nat.{_+_, _-_}
 use lib.ListN.{length}
 use Rattle.model.specs.Sheet.{Step, and-step}
 use Rattle.model.specs.Compose.{S, T, Sizes, lift-step}

@@ -1,20 +1,18 @@
 -- The words of an order part, and of lifted and paired ones.
 use mathlib.Core.Path.{_≡_, refl, sym, ap, ap₂, _∙_}
-use mathlib.Core.Bool.{_&&_}
 use mathlib.Core.List.{List, [], _∷_, _++_, map, flatMap, map-id, List·Memᴰ·head, List·Memᴰ·tail}
 use Prim.Native.Nat.{ℕ, suc, _+_, _*_, _/_, _%_, _≤_}
 use native.Mathlib.Nat.{suc-mul}
 use native.Mathlib.Omega.{arith}
-use lib.ListN.{length, getD, take, drop, length-append, length-map, length-drop}
-use lib.Seq.{slice, take-add, drop-at, take-at, length-take-le}
+use lib.ListN.{length, getD, length-append, length-map}
+use lib.Seq.{slice}
 use Rattle.model.specs.Lists.{_∈_, has, numbers, row, grid}
-use Rattle.model.specs.Sheet.{W, mask, set-words, bit, Arc, arc-word, arc-of, Order, order-words, ArcInRange, OrderInRange}
+use Rattle.model.specs.Sheet.{W, mask, set-words, Arc, arc-word, arc-of, Order, order-words, ArcInRange, OrderInRange}
 use Rattle.model.specs.Compose.{pair, Side, Sizes, of-other, lift-arc, lift-order, pair-arc, pair-order}
 use Rattle.model.proofs.ListLaws.{length-from, map-append}
-use Rattle.model.specs.Spans.{WordsAt}
 use Rattle.model.proofs.PartLaws.{words-from}
 use Rattle.model.proofs.RuleWords.{order-room}
-use Rattle.model.proofs.Spans.{word-there, word-here, span-right}
+use Rattle.model.proofs.Spans.{word-here, span-right}
 use Rattle.parts.specs.Lengths.{order-length}
 use Rattle.page.specs.Sets.{pair-set}
 use Rattle.join_order.specs.Arcs.{lifted-arc, lifted-grid, paired-arc}

@@ -1,5 +1,4 @@
 -- `lift_arc` meets its contract.
-use native.Mathlib.Omega.{arith}
 use Rattle.model.specs.Sheet.{arc-word}
 use Rattle.join_pairs.proofs.NumberLaws.{few-T}
 use borrow.Author.Needs.{needs}
@@ -12,7 +11,7 @@ lift-arc-spec =
     tie.close
     (tie.spec
     (λ c κs. search needs)
-    (λ c κs. omega (arith, few-T (c .before .pre .0)))
+    (λ c κs. search (few-T, needs))
     (λ c κs. search needs)
     (λ c.
     let (leaves, reads, enters) = c .before .before .arc-of .ensures in

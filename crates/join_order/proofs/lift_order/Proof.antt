@@ -1,9 +1,7 @@
 -- `lift_order` meets its contract.
 use native.Mathlib.Omega.{arith}
-use denote.Ref.{now}
-use Rattle.join_pairs.specs.Sides.{side-of, sizes-of}
+use Rattle.join_pairs.specs.Sides.{side-of}
 use Rattle.join_pairs.proofs.NumberLaws.{few-side, few-other}
-use Rattle.join_order.specs.Orders.{HeadOf}
 use Rattle.page.proofs.PageLaws.{then, as-words}
 use Rattle.join_order.proofs.OrderWords.{lifted-few, lifted-order-words}
 use borrow.Author.Needs.{needs}

@@ -33,10 +33,6 @@ lift-row-spec =
     (λ c κs. search needs)
     (λ c. search needs)
     (λ c. search needs)
-    (λ c.
-    let put = c .before .before in
-    let turn = put .before .before .before in
-    let first = from-next _ _ (turn .loop-test .taken) in
-    more (turn .before .loop .inv) (row-next _ _ first (put .before .lift-arc .ensures)) (put .put .ensures))
-    (λ c. kept (c .before .loop .inv))
-    (λ c. done (c .before .loop .inv) (row-none _ _ (from-none _ _ (c .loop-test .left)))))
+    (λ c. search (from-next, more, row-next, needs))
+    (λ c. search (kept, needs))
+    (λ c. search (done, row-none, from-none, needs)))

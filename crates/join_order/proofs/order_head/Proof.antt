@@ -17,6 +17,4 @@ order-head-spec =
     (λ c. omega (arith, order-room (c .before .before .before .before .pre .1 .1)))
     (λ c κs. search needs)
     (λ c. omega (arith, order-end (c .before .before .before .before .before .pre .1 .1)))
-    (λ c. λ p o h.
-    let read = c .before .before .before in
-    head-of h (read .at .ensures) (c .before .before .set-at .ensures) (c .before .field .ensures) (c .order-length .ensures)))
+    (λ c. search (head-of, needs)))

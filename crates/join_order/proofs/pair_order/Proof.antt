@@ -45,10 +45,7 @@ pair-order-spec =
     (λ c. omega (arith, fit (c .before .before .before) .positions))
     (λ c. omega (arith, fit (c .before .before .before .before .before) .arcs))
     (λ c κs. search needs)
-    (λ c κs.
-    let head = c .before .before .before in
-    let set = head .before .before .before .before .before .before in
-    pairable (set .before))
+    (λ c κs. search (pairable, needs))
     (λ c. search needs)
     (λ c.
     let arcs = c .before .before in

@@ -31,11 +31,6 @@ pair-row-spec =
     (λ c κs. search needs)
     (λ c. search needs)
     (λ c. search needs)
-    (λ c.
-    let put = c .before .before in
-    let turn = put .before .before .before .before in
-    let loop = turn .before .before in
-    let room = loop .before .before .before .pre .0 in
-    more (loop .loop .inv) (row-next _ _ (slice-next _ _ _ (turn .if1 .taken) room) (put .before .pair-arc .ensures)) (put .put .ensures))
-    (λ c. kept (c .before .before .loop .inv))
-    (λ c. done (c .before .before .loop .inv) (row-none _ _ (slice-none _ _ _ (c .if1 .left)))))
+    (λ c. search (more, row-next, slice-next, needs))
+    (λ c. search (kept, needs))
+    (λ c. search (done, row-none, slice-none, needs)))
