@@ -27,9 +27,9 @@ use Rattle.model.proofs.Answered.{refusal-says, sheet-counted, sheet-refused}
 use Rattle.model.proofs.PassedLaws.{passes-in, coded, few-words, tags-word}
 use Rattle.sheet.proofs.Over.{refused-place}
 use Rattle.page.specs.Page.{Writes}
-use Rattle.page.specs.Limits.{words-said}
+use Rattle.limits.specs.Limits.{words-said}
 use Rattle.page.proofs.PageLaws.{counted, front}
-use Rattle.page.proofs.LimitLaws.{words-over, words-short, words-within}
+use Rattle.limits.proofs.LimitLaws.{words-over, words-short, words-within}
 use Rattle.join_limits.specs.Limits.{first-place}
 use Rattle.compose.specs.Joins.{lent, fitted, limited, Gives, Limits}
 use Rattle.compose.proofs.LimitChecks.{limits-over, limits-within}

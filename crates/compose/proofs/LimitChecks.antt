@@ -15,8 +15,8 @@ use Rattle.model.specs.Index.{Indexed}
 use Rattle.model.proofs.Tests.{Yes}
 use Rattle.model.proofs.ListLaws.{every-∈}
 use Rattle.model.proofs.PassedLaws.{in-range, states-word}
-use Rattle.page.specs.Limits.{first-of}
-use Rattle.page.proofs.LimitLaws.{first-3, first-4}
+use Rattle.limits.specs.Limits.{first-of}
+use Rattle.limits.proofs.LimitLaws.{first-3, first-4}
 use Rattle.join_pairs.proofs.NumberLaws.{mul-le}
 use Rattle.join_alike.specs.Alike.{joint-rules-in, Joinable, FewPositions}
 use Rattle.join_limits.specs.declared.Tally.{Tally}

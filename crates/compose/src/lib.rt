@@ -16,11 +16,11 @@ use layout::MOST_STATES;
 use layout::STATES;
 use layout::TAGS;
 use layout::wide;
+use limits::PLACE_STATES;
+use limits::PLACE_WORDS;
+use limits::check_words;
 use model::Answer;
 use model::Refusal;
-use page::PLACE_STATES;
-use page::PLACE_WORDS;
-use page::check_words;
 use parts::at;
 
 // the place of a refusal of T's words is that of T's check plus this

@@ -97,7 +97,8 @@ pub record InRow (u v index : List ℕ) (x : Spot) (n : Sizes) (m j : ℕ) : Typ
   pub has-key : j < length (rules-in v) → key (nth (rules-in v) j) ≡ key (rule-of u x)
 
 pub row-begun : {u v index : List ℕ} {x : Spot} → RowOf u v index x → (n : Sizes) → n .s ≡ getD u 1 0 → n .t ≡ getD v 1 0 → {w m j : ℕ}
-    → w ≡ getD v 5 0 → m ≡ w → j ≡ getD index (key (rule-of u x)) 0 → key (rule-of u x) < 67 → InRow u v index x n m j × (row-in u v x ≡ row-from u v x j)
+    → w ≡ getD v 5 0 → m ≡ w → j ≡ getD index (key (rule-of u x)) 0 → key (rule-of u x) < 67
+    → InRow u v index x n m j × (row-in u v x ≡ row-from u v x j)
 row-begun {u} {v} {x = x} h n es et ew em e l =
     let s = es ∙ states-word (h .first) in
     let t = et ∙ states-word (h .second .sheet) in

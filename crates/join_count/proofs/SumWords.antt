@@ -20,8 +20,8 @@ use Rattle.model.proofs.Spans.{word-here, span-right}
 use Rattle.bits.proofs.BitLaws.{mask-like}
 use Rattle.bits.proofs.SetLaws.{words-stand, stands-members}
 use Rattle.parts.specs.Lengths.{sum-length}
-use Rattle.page.specs.Sets.{pair-set}
-use Rattle.page.proofs.SetLaws.{few-pairs}
+use Rattle.sets.specs.Sets.{pair-set}
+use Rattle.sets.proofs.SetLaws.{few-pairs}
 use Rattle.page.specs.Page.{repeated, repeated-each}
 use Rattle.join_count.specs.declared.SumHead.{SumHead}
 use Rattle.model.specs.Spans.{SumAt}

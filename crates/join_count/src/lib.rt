@@ -12,13 +12,13 @@ use join_pairs::Sizes;
 use layout::AND;
 use layout::REMAINDER;
 use layout::wide;
-use page::ALL;
 use page::copy;
-use page::pair_set;
 use page::put;
 use page::put_set;
 use page::repeat_all;
 use page::repeat_each;
+use sets::ALL;
+use sets::pair_set;
 
 // the two words of marks before a sum's coefficients
 const MARKS: usize = 2;

@@ -22,7 +22,7 @@ use Rattle.model.proofs.ListLaws.{length-from}
 use Rattle.model.proofs.Spans.{word-here}
 use Rattle.model.proofs.PartLaws.{word-is}
 use Rattle.model.proofs.RuleWords.{order-room, is-there, not-there}
-use Rattle.page.specs.Limits.{first-of}
+use Rattle.limits.specs.Limits.{first-of}
 use Rattle.join_pairs.specs.declared.Sizes.{Sizes}
 use Rattle.join_pairs.specs.Sides.{sizes-of}
 use Rattle.join_alike.specs.declared.Spot.{Spot}

@@ -16,8 +16,8 @@ use Rattle.model.proofs.Tests.{Told, yea, nay, told}
 use Rattle.model.proofs.ListLaws.{length-each}
 use Rattle.model.proofs.JoinRange.{pair-rule-count}
 use Rattle.model.proofs.PassedLaws.{in-range}
-use Rattle.page.specs.Limits.{place, first-of}
-use Rattle.page.proofs.LimitLaws.{place-least}
+use Rattle.limits.specs.Limits.{place, first-of}
+use Rattle.limits.proofs.LimitLaws.{place-least}
 use Rattle.join_alike.specs.declared.Spot.{Spot}
 use Rattle.join_alike.specs.Spots.{rule-of}
 use Rattle.join_alike.specs.Alike.{sizes-in, RowOf, row-in}

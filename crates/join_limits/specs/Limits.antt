@@ -8,7 +8,7 @@ use lib.ListN.{length}
 use Rattle.model.specs.Lists.{every}
 use Rattle.model.specs.Sheet.{Rule}
 use Rattle.model.specs.Compose.{positions-of, arcs-of, steps-of}
-use Rattle.page.specs.Limits.{first-of}
+use Rattle.limits.specs.Limits.{first-of}
 use Rattle.join_limits.specs.declared.Extent.{Extent}
 use Rattle.join_limits.specs.declared.Tally.{Tally}
 

@@ -20,9 +20,9 @@ use join_alike::with_order;
 use join_pairs::Sizes;
 use layout::RULES;
 use layout::wide;
-use page::PLACE_RULES;
-use page::PLACE_WORDS;
-use page::first_over;
+use limits::PLACE_RULES;
+use limits::PLACE_WORDS;
+use limits::first_over;
 use parts::at;
 use parts::field;
 

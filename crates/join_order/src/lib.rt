@@ -20,8 +20,8 @@ use join_pairs::of_other;
 use join_pairs::pair;
 use page::WORD;
 use page::copy;
-use page::pair_set;
 use page::put;
+use sets::pair_set;
 
 // The fields of an arc word are a byte each: from the top the position it leaves, the state it reads, the position it enters.
 const BYTE: u32 = 0x100;

@@ -15,8 +15,8 @@ use Rattle.model.proofs.ListLaws.{∈-has, has-no, ∈-filter}
 use Rattle.model.proofs.SetWords.{bit-mask}
 use Rattle.model.proofs.PassedLaws.{coded, in-range, states-word, final-words, tags-word}
 use Rattle.bits.proofs.BitLaws.{mask-like}
-use Rattle.page.specs.Sets.{complement, pair-set}
-use Rattle.page.proofs.SetLaws.{few-pairs, pairs-mask}
+use Rattle.sets.specs.Sets.{complement, pair-set}
+use Rattle.sets.proofs.SetLaws.{few-pairs, pairs-mask}
 use Rattle.join_alike.specs.Alike.{Joinable}
 use Rattle.join_rules.specs.Written.{joint-words}
 use Rattle.join_sheets.specs.Sheets.{joint-in, BothPass, WithinLimits, final-in, head-words}

@@ -12,12 +12,12 @@ use layout::EDITION;
 use layout::FINAL;
 use layout::STATES;
 use layout::TAGS;
-use page::complement;
 use page::copy;
-use page::pair_set;
 use page::put_set;
 use parts::at;
 use parts::set_at;
+use sets::complement;
+use sets::pair_set;
 
 // Writes the words of a sheet with every final bit below its number of states turned.
 pub fn put_swapped(sheet: &[u32], out: &mut [u32]) -> usize

@@ -1,3 +1,1 @@
 pub mod PageLaws
-pub mod SetLaws
-pub mod LimitLaws

@@ -1,8 +1,6 @@
 -- `copy` meets its contract.
 use Prim.Native.Nat.{_-_}
-use native.Mathlib.Omega.{arith}
 use lib.Seq.{slice}
-use denote.Ref.{now}
 use Rattle.page.proofs.PageLaws.{Left, begun, more, done, kept, slice-cut, slice-next, slice-none}
 use borrow.Author.Needs.{needs}
 use Rattle.page.proofs.copy.Statement.{statement}
@@ -27,9 +25,6 @@ copy-spec =
     (λ c κs. search needs)
     (λ c. search needs)
     (λ c. search needs)
-    (λ c.
-    let put = c .before .before in
-    let turn = put .before .before .before in
-    more (turn .before .loop .inv) (slice-next _ _ _ (turn .loop-test .taken) (omega arith)) (put .put .ensures))
+    (λ c. search (more, slice-next, needs))
     (λ c. search (kept, needs))
     (λ c. search (done, slice-none, needs)))

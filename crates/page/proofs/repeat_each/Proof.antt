@@ -27,7 +27,7 @@ repeat-each-spec =
     (λ c κs. search needs)
     (λ c.
     let a = c .before .before .before .args in
-    begun (ap (repeated-each _) (slice-cut (now (a .words)) (a .from) (a .to) (c .end-within .ensures))))
+    begun (ap (repeated-each _) (slice-cut (now (a .words)) (a .from) (a .to) (c .end-within .ensures .0))))
     (λ c. search needs)
     (λ c. search needs)
     (λ c κs. search needs)

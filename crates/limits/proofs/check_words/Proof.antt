@@ -1,9 +1,9 @@
 -- `check_words` meets its contract.
 use Rattle.model.specs.Answers.{said, said-refusal}
-use Rattle.page.proofs.LimitLaws.{words-over, words-short, words-within}
+use Rattle.limits.proofs.LimitLaws.{words-over, words-short, words-within}
 use borrow.Author.Needs.{needs}
-use Rattle.page.proofs.check_words.Statement.{statement}
-use Rattle.page.proofs.check_words.Tie as tie
+use Rattle.limits.proofs.check_words.Statement.{statement}
+use Rattle.limits.proofs.check_words.Tie as tie
 
 pub check-words-spec : {M : Type 1} → statement M
 unfolding said said-refusal

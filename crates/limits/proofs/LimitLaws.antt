@@ -1,12 +1,11 @@
 -- The first of three limits that is exceeded, and the check of words, by the code's tests.
-use mathlib.Core.Path.{_≡_, sym}
+use mathlib.Core.Path.{_≡_}
 use mathlib.Core.Bool.{Bool, true, false}
 use Prim.Native.Nat.{ℕ, _≤_, _<_}
 use native.Mathlib.Omega.{arith}
-use lib.Dec.{leb}
 use borrow.Author.Tests as tests
 use Rattle.model.specs.Answers.{count, refusal, _>>_, require, room-for, answer-of}
-use Rattle.page.specs.Limits.{place, first-of, words-said}
+use Rattle.limits.specs.Limits.{place, first-of, words-said}
 
 -- ---- the first of three places
 
@@ -19,19 +18,6 @@ first-3 b c = omega (arith, place-least b {k = 4} (omega arith) .0, place-least 
 
 pub first-4 : (c : Bool) → first-of true false c ≡ 4
 first-4 c = omega (arith, place-least c {k = 5} (omega arith) .0)
-
-module _ (m n k : ℕ) where
-  pub over-positions : 64 < m → 3 ≡ first-of (leb m 64) (leb n 1024) (leb k 32)
-  over-positions h = rw (tests.lt-leb m 64 h) (sym (first-3 (leb n 1024) (leb k 32)))
-
-  pub over-arcs : m ≤ 64 → 1024 < n → 4 ≡ first-of (leb m 64) (leb n 1024) (leb k 32)
-  over-arcs h i = rw (tests.le-leb m 64 h, tests.lt-leb n 1024 i) (sym (first-4 (leb k 32)))
-
-  pub over-steps : m ≤ 64 → n ≤ 1024 → 32 < k → 5 ≡ first-of (leb m 64) (leb n 1024) (leb k 32)
-  over-steps h i j = rw (tests.le-leb m 64 h, tests.le-leb n 1024 i, tests.lt-leb k 32 j)
-
-  pub over-none : m ≤ 64 → n ≤ 1024 → k ≤ 32 → 6 ≡ first-of (leb m 64) (leb n 1024) (leb k 32)
-  over-none h i j = rw (tests.le-leb m 64 h, tests.le-leb n 1024 i, tests.le-leb k 32 j)
 
 -- ---- the number of words
 

@@ -1,8 +1,8 @@
 -- `all_below` meets its contract.
-use Rattle.page.proofs.SetLaws.{some-power, shifted-all, every-number}
+use Rattle.sets.proofs.SetLaws.{some-power, shifted-all, every-number}
 use borrow.Author.Needs.{needs}
-use Rattle.page.proofs.all_below.Statement.{statement}
-use Rattle.page.proofs.all_below.Tie as tie
+use Rattle.sets.proofs.all_below.Statement.{statement}
+use Rattle.sets.proofs.all_below.Tie as tie
 
 pub all-below-spec : {M : Type 1} → statement M
 all-below-spec =

@@ -1,12 +1,12 @@
 -- Laws of sets as numbers: a mask in two parts; all numbers below k, and those that are not in a set; sets of pairs, row by row.
 use mathlib.Core.Path.{_≡_, refl, sym, ap, ap₂, _∙_}
+use mathlib.Core.Logic.{_≢_}
 use mathlib.Core.Bool.{Bool, true, false, cond, not, _&&_, false≢true}
 use mathlib.Core.List.{List}
 use Prim.Native.Nat.{ℕ, zero, suc, _+_, _-_, _*_, _/_, _%_, _^_, _≤_, _<_, min}
 use native.Mathlib.Nat.{zero-add, mul-assoc, mul-le-mul-right, pow-suc, mod-lt, div-lt-iff-lt-mul, le-div-iff-mul-le, lt-of-not-le}
 use native.Mathlib.Omega.{arith}
 use lib.Bits.{bitAnd, and-le-l}
-use lib.Dec.{leb}
 use lib.Pow.{pow-pos, pow-mono, shl-exact}
 use borrow.Author.Tests as tests
 use mir.Val.{boolByte}
@@ -18,7 +18,7 @@ use Rattle.model.proofs.ListLaws.{∈-has, has-∈, has-no, pair-left, pair-rig
 use Rattle.model.proofs.Pairs.{either, on-both, ∈-pairs}
 use Rattle.model.proofs.SetWords.{bit-mask, mask-<}
 use Rattle.bits.proofs.BitLaws.{mask-like, mask-bits, bit-and, shifted-one}
-use Rattle.page.specs.Sets.{all-below, complement, pair-set}
+use Rattle.sets.specs.Sets.{all-below, complement, pair-set}
 
 -- ---- masks
 
@@ -72,40 +72,24 @@ every-number k h =
     let e : min k 64 ≡ 64 = omega arith in
     rw e (omega (arith, mask-all 64))
 
--- ---- a row of pairs: all or none of them, and of these the members of t
+-- ---- the members of a set that are below k, and the numbers below k that are not in it
 
-module _ (n : ℕ) {all : ℕ} (e : all ≡ all-below n) (flag : Bool) where
-  all-or-none : all * boolByte flag ≡ mask (min n 64) (λ i. flag)
+module _ (set k : ℕ) {all : ℕ} (e : all ≡ all-below k) where
+  pub below-is : bitAnd all set ≡ mask (min k 64) (bit set)
   unfolding all-below
-  all-or-none = go flag
-    where
-      go : (b : Bool) → all * boolByte b ≡ mask (min n 64) (λ i. b)
-      go true = omega (arith, e)
-      go false = omega (arith, mask-none (min n 64))
+  below-is =
+      let every = mask (min k 64) (λ i. true) in
+      rw e (mask-bits (min k 64) (bitAnd every set) (bit set) (omega (arith, and-le-l every set, mask-< (min k 64) (λ i. true)))
+      (λ i l. bit-and every set i ∙ ap (λ (b : Bool). b && bit set i) (bit-mask (min k 64) (λ i. true) i l)))
 
-  few-powers : 2 ^ min n 64 ≤ 2 ^ 64
-  few-powers = let h : min n 64 ≤ 64 = omega arith in pow-mono h
+  module _ {some : ℕ} (f : some ≡ mask (min k 64) (bit set)) where
+    pub some-of-all : some ≤ all
+    unfolding all-below
+    some-of-all = omega (arith, e, f, mask-all (min k 64), mask-< (min k 64) (bit set))
 
-  pub row-fits : all * boolByte flag < 2 ^ 64
-  row-fits = omega (arith, all-or-none, mask-< (min n 64) (λ i. flag), few-powers)
-
-  pub row-is : (t : ℕ) → bitAnd (all * boolByte flag) t ≡ mask (min n 64) (λ i. flag && bit t i)
-  row-is t =
-      let k = min n 64 in
-      let some = mask k (λ i. flag) in
-      ap (λ (x : ℕ). bitAnd x t) all-or-none
-      ∙ mask-bits k (bitAnd some t) _ (omega (arith, and-le-l some t, mask-< k (λ i. flag)))
-      (λ i l. bit-and some t i ∙ ap (λ (b : Bool). b && bit t i) (bit-mask k (λ i. flag) i l))
-
--- the numbers below k that are not in a set: all but those of them that are
-module _ (set k : ℕ) {all some : ℕ} (e : all ≡ all-below k) (f : some ≡ mask (min k 64) (λ i. bit set i)) where
-  pub some-of-all : some ≤ all
-  unfolding all-below
-  some-of-all = omega (arith, e, f, mask-all (min k 64), mask-< (min k 64) (λ i. bit set i))
-
-  pub complement-is : all - some ≡ complement set k
-  unfolding all-below complement
-  complement-is = omega (arith, e, f, mask-all (min k 64), mask-not (min k 64) (λ i. bit set i))
+    pub complement-is : all - some ≡ complement set k
+    unfolding all-below complement
+    complement-is = omega (arith, e, f, mask-all (min k 64), mask-not (min k 64) (bit set))
 
 -- ---- pairs, row by row
 
@@ -113,15 +97,23 @@ module _ (set k : ℕ) {all some : ℕ} (e : all ≡ all-below k) (f : some ≡ 
 abbrev both : (n s t x : ℕ) → Bool
 both n s t x = bit s (x / n) && bit t (x % n)
 
+-- the rows below i of at most 64 pairs
+pub record Rows (m n s t i set : ℕ) : Type 0 where
+  pub some : 1 ≤ n
+  pub few : m * n ≤ 64
+  pub within : i ≤ m
+  pub is : set ≡ mask (i * n) (both n s t)
+
 -- what is told of two numbers: there are no pairs, over 64 pairs, or at most 64
 module _ (m n s t : ℕ) where
   pub no-columns : n ≡ 0 → 0 ≡ pair-set m n s t
   unfolding pair-set mask
   no-columns e = let none : m * 0 ≡ 0 = omega arith in rw (e, none)
 
-  pub many-pairs : 1 ≤ n → 64 / n < m → 0 ≡ pair-set m n s t
+  pub many-pairs : n ≢ 0 → 64 / n < m → 0 ≡ pair-set m n s t
   unfolding pair-set
-  many-pairs some h =
+  many-pairs other h =
+      let some : 1 ≤ n = omega (arith, other) in
       let many : 64 < m * n = lt-of-not-le (λ l. absurd (omega (arith, le-div-iff-mul-le {x = m} {y = 64} some .1 l))) in
       rw (tests.lt-leb (m * n) 64 many)
 
@@ -129,50 +121,52 @@ module _ (m n s t : ℕ) where
   unfolding pair-set
   few-pairs h = rw (tests.le-leb (m * n) 64 h)
 
--- the rows below i
-pub record Rows (m n s t i set : ℕ) : Type 0 where
-  pub within : i ≤ m
-  pub is : set ≡ mask (i * n) (both n s t)
+  pub no-rows : n ≢ 0 → m ≤ 64 / n → Rows m n s t 0 0
+  unfolding mask
+  no-rows other h =
+      let some : 1 ≤ n = omega (arith, other) in
+      let none : 0 * n ≡ 0 = omega arith in
+      record { some = some; few = le-div-iff-mul-le some .0 h; within = omega arith; is = rw none }
 
-pub no-rows : (m n s t : ℕ) → Rows m n s t 0 0
-unfolding mask
-no-rows m n s t = let e : 0 * n ≡ 0 = omega arith in record { within = omega arith; is = sym (ap (λ (k : ℕ). mask k (both n s t)) e) }
+pub all-rows : {m n s t i set : ℕ} → Rows m n s t i set → m ≤ i → set ≡ pair-set m n s t
+all-rows {m} {n} {s} {t} {i} h l = let e : i ≡ m = omega (arith, h .within) in h .is ∙ rw e (sym (few-pairs m n s t (h .few)))
 
-pub all-rows : {m n s t i set : ℕ} → m * n ≤ 64 → Rows m n s t i set → m ≤ i → set ≡ pair-set m n s t
-all-rows {m} {n} {s} {t} {i} few h l =
-    let e : i ≡ m = omega (arith, h .within) in
-    h .is ∙ ap (λ (k : ℕ). mask (k * n) (both n s t)) e ∙ sym (few-pairs m n s t few)
+-- one row more: that of i, all members of t below n or none of them
+module _ {m n s t i set : ℕ} (h : Rows m n s t i set) (l : i < m) where
+  pub row-room : i * n + n ≤ 64
+  row-room = let k : suc i * n ≤ m * n = mul-le-mul-right n l in omega (arith, h .few)
 
--- one row more
-pub few-rows : (m n : ℕ) → 1 ≤ n → m ≤ 64 / n → m * n ≤ 64
-few-rows m n some h = le-div-iff-mul-le some .0 h
+  module _ {row : ℕ} {flag : Bool} (f : flag ≡ bit s i) (r : row ≡ mask (min n 64) (bit t)) where
+    row-is : row * boolByte flag ≡ mask n (λ j. flag && bit t j)
+    row-is = let e : min n 64 ≡ n = omega (arith, row-room) in rw (r, e) (go flag)
+      where
+        go : (b : Bool) → mask n (bit t) * boolByte b ≡ mask n (λ j. b && bit t j)
+        go true = omega arith
+        go false = omega (arith, mask-none n)
 
-pub row-room : (m n i : ℕ) → m * n ≤ 64 → i < m → i * n + n ≤ 64
-row-room m n i few l = let h : suc i * n ≤ m * n = mul-le-mul-right n l in omega arith
+    row-small : row * boolByte flag < 2 ^ n
+    row-small = omega (arith, row-is, mask-< n (λ j. flag && bit t j))
 
-module _ {m n s t i set row : ℕ} {flag : Bool} (few : m * n ≤ 64) (l : i < m) (h : Rows m n s t i set) (f : flag ≡ bit s i)
-    (r : row ≡ mask (min n 64) (λ j. flag && bit t j)) where
-  row-whole : row ≡ mask n (λ j. flag && bit t j)
-  row-whole = let e : min n 64 ≡ n = omega (arith, row-room m n i few l) in r ∙ ap (λ (k : ℕ). mask k (λ j. flag && bit t j)) e
+    pub row-fits : row * boolByte flag < 2 ^ 64
+    row-fits = let k : n ≤ 64 = omega (arith, row-room) in omega (arith, row-small, pow-mono k)
 
-  abbrev with-row : ℕ
-  with-row = set + (row * 2 ^ (i * n)) % 2 ^ 64
+    abbrev with-row : ℕ
+    with-row = set + ((row * boolByte flag) * 2 ^ (i * n)) % 2 ^ 64
 
-  with-row-is : with-row ≡ mask (i * n + n) (both n s t)
-  with-row-is =
-      let high : mask n (λ j. both n s t (i * n + j)) ≡ row
-      = mask-like n _ _ (λ j k. ap₂ _&&_ (ap (bit s) (pair-left i k) ∙ sym f) (ap (bit t) (pair-right i k))) ∙ sym row-whole in
-      let small : row < 2 ^ n = omega (arith, row-whole, mask-< n (λ j. flag && bit t j)) in
-      let exact : (row * 2 ^ (i * n)) % 2 ^ 64 ≡ row * 2 ^ (i * n) = shl-exact n (i * n) 64 small (omega (arith, row-room m n i few l)) in
-      ap₂ _+_ (h .is) (exact ∙ ap (λ (x : ℕ). x * 2 ^ (i * n)) (sym high)) ∙ sym (mask-parts (i * n) n (both n s t))
+    with-row-is : with-row ≡ mask (i * n + n) (both n s t)
+    with-row-is =
+        let high : row * boolByte flag ≡ mask n (λ j. both n s t (i * n + j))
+        = row-is ∙ mask-like n _ _ (λ j k. ap₂ _&&_ (f ∙ sym (ap (bit s) (pair-left i k))) (sym (ap (bit t) (pair-right i k)))) in
+        ap₂ _+_ (h .is) (shl-exact n (i * n) 64 row-small (omega (arith, row-room)) ∙ ap (λ (x : ℕ). x * 2 ^ (i * n)) high)
+        ∙ sym (mask-parts (i * n) n (both n s t))
 
-  pub with-row-fits : with-row < 2 ^ 64
-  with-row-fits = omega (arith, with-row-is, mask-< (i * n + n) (both n s t), pow-mono (row-room m n i few l))
+    pub with-row-fits : with-row < 2 ^ 64
+    with-row-fits = omega (arith, with-row-is, mask-< (i * n + n) (both n s t), pow-mono row-room)
 
-  pub one-row-more : Rows m n s t (i + 1) with-row
-  one-row-more =
-      let e : i * n + n ≡ (i + 1) * n = omega arith in
-      record { within = omega arith; is = with-row-is ∙ ap (λ (k : ℕ). mask k (both n s t)) e }
+    pub one-row-more : Rows m n s t (i + 1) with-row
+    one-row-more =
+        let e : i * n + n ≡ (i + 1) * n = omega arith in
+        record { some = h .some; few = h .few; within = omega arith; is = with-row-is ∙ ap (λ (k : ℕ). mask k (both n s t)) e }
 
 -- ---- pairs of two sets
 
