@@ -21,36 +21,31 @@ use Rattle.model.specs.Sheet.{Sheet, sheet-words, sheet-of}
 use Rattle.model.specs.Compose.{swapped, joint, within-limits}
 use Rattle.model.specs.Index.{sheet-in, Passes, index-words, index-after, Indexed}
 use Rattle.model.specs.Calls.{sheet-said, swap, swap-said, swap-out, in-second, joined, join, join-said, join-out}
-use Rattle.model.proofs.Tests.{Told, yea, nay, told}
 use Rattle.model.proofs.SwapLaws.{swapped-words}
-use Rattle.model.proofs.Answered.{refusal-says, sheet-counted, sheet-refused}
+use Rattle.model.proofs.Answered.{sheet-counted, sheet-refused}
 use Rattle.model.proofs.PassedLaws.{passes-in, coded, few-words, tags-word}
 use Rattle.sheet.proofs.Over.{refused-place}
 use Rattle.page.specs.Page.{Writes}
-use Rattle.limits.specs.Limits.{words-said}
 use Rattle.page.proofs.PageLaws.{counted, front}
-use Rattle.limits.proofs.LimitLaws.{words-over, words-short, words-within}
-use Rattle.join_limits.specs.Limits.{first-place}
-use Rattle.compose.specs.Joins.{lent, fitted, limited, Gives, Limits}
-use Rattle.compose.proofs.LimitChecks.{limits-over, limits-within}
+use Rattle.compose.specs.Joins.{lent, limited, Gives, Limits}
 
 -- ---- a call that lends words their room
 
 -- the same check, said otherwise
-gives-by : {out : List ℕ} {c d : Checked (List ℕ)} {x : Said} {y : List ℕ} → c ≡ d → Gives out d x y → Gives out c x y
+pub gives-by : {out : List ℕ} {c d : Checked (List ℕ)} {x : Said} {y : List ℕ} → c ≡ d → Gives out d x y → Gives out c x y
 gives-by {out} {x = x} {y = y} e = subst (λ b. Gives out b x y) (sym e)
 
 module _ (out : List ℕ) {c : Checked (List ℕ)} where
-  gives-refusal : {n i : ℕ} → c ≡ refuses n i → Gives out c (refusal n i) out
+  pub gives-refusal : {n i : ℕ} → c ≡ refuses n i → Gives out c (refusal n i) out
   unfolding answer-of buffer-after
   gives-refusal e = record { says = rw e; leaves = rw e }
 
   module _ (ws : List ℕ) (e : c ≡ lent ws (length out)) where
-    gives-short : length out < length ws → Gives out c (refusal 22 (length ws)) out
+    pub gives-short : length out < length ws → Gives out c (refusal 22 (length ws)) out
     unfolding room-for require _>>_
     gives-short h = gives-refusal (e ∙ rw (tests.lt-leb (length ws) (length out) h))
 
-    gives-words : {y : List ℕ} {i : ℕ} → length ws ≤ 16384 → length ws ≤ length out → Writes out 0 ws y i → Gives out c (count i) y
+    pub gives-words : {y : List ℕ} {i : ℕ} → length ws ≤ 16384 → length ws ≤ length out → Writes out 0 ws y i → Gives out c (count i) y
     unfolding room-for require _>>_ answer-of buffer-after
     gives-words few h p =
         let f = tests.le-leb (length ws) (length out) h in
@@ -117,86 +112,6 @@ module _ (sheet out : List ℕ) where
         swaps (gives-words out (sheet-words (swapped (sheet-in sheet))) lends
         (omega (arith, size, sheet-counts sheet e c .1, few-words ok .1)) (omega (arith, size)) w)
 
--- ---- join: a joint sheet with few states
-
-module _ (j : Sheet) (out : List ℕ) where
-  -- n is the number of its words, up to one more than the most
-  module _ {n : ℕ} (e : n ≡ min (length (sheet-words j)) 16385) where
-    fitted-over : 16384 < n → Gives out (fitted j (length out)) (refusal 21 6) out
-    unfolding require _>>_
-    fitted-over h = gives-refusal out (rw (tests.lt-leb (length (sheet-words j)) 16384 (omega arith)))
-
-    module _ (h : n ≤ 16384) where
-      long : length (sheet-words j) ≡ n
-      long = omega arith
-
-      fits : fitted j (length out) ≡ lent (sheet-words j) (length out)
-      unfolding require _>>_
-      fits = rw (tests.le-leb (length (sheet-words j)) 16384 (omega (arith, long)))
-
-      fitted-short : length out < n → Gives out (fitted j (length out)) (refusal 22 n) out
-      fitted-short l =
-          subst (λ (m : ℕ). Gives out (fitted j (length out)) (refusal 22 m) out) long (gives-short out (sheet-words j) fits (rw long l))
-
-      fitted-long : {y : List ℕ} {i : ℕ} → n ≤ length out → Writes out 0 (sheet-words j) y i → Gives out (fitted j (length out)) (count i) y
-      fitted-long l w = gives-words out (sheet-words j) fits (omega (arith, long)) (omega (arith, long)) w
-
-    -- q is the answer of the check of n
-    module _ {q : Answer} (f : said q ≡ words-said n (length out)) where
-      pub fitted-refused : {x : Refusal} → q ≡ Error x → Gives out (fitted j (length out)) (said-refusal x) out
-      unfolding said
-      fitted-refused {x} c = go (told (leb n 16384)) (told (leb n (length out)))
-        where
-          says : said-refusal x ≡ words-said n (length out)
-          says = sym (ap said c) ∙ f
-
-          go : Told (leb n 16384) → Told (leb n (length out)) → Gives out (fitted j (length out)) (said-refusal x) out
-          go (nay t) _ = let l = tests.leb-false n 16384 t in rw (says ∙ sym (words-over n (length out) l)) (fitted-over l)
-          go (yea t) (nay s) =
-              let few = tests.leb-true n 16384 t in
-              let l = tests.leb-false n (length out) s in
-              rw (says ∙ sym (words-short n (length out) few l)) (fitted-short few l)
-          go (yea t) (yea s) =
-              let (m, i, r) = refusal-says x in
-              let same : refusal m i ≡ count n
-              = sym r ∙ says ∙ sym (words-within n (length out) (tests.leb-true n 16384 t) (tests.leb-true n (length out) s)) in
-              let z : _≡_ {A = ℕ} 0 1 = cc same in
-              absurd (omega arith)
-
-      pub fitted-words : {k : ℕ} → q ≡ Count k → {y : List ℕ} {i : ℕ} → Writes out 0 (sheet-words j) y i
-          → Gives out (fitted j (length out)) (count i) y
-      unfolding said
-      fitted-words {k} c {y} {i} w = go (told (leb n 16384)) (told (leb n (length out)))
-        where
-          says : count k ≡ words-said n (length out)
-          says = sym (ap said c) ∙ f
-
-          go : Told (leb n 16384) → Told (leb n (length out)) → Gives out (fitted j (length out)) (count i) y
-          go (nay t) _ =
-              let same : count k ≡ refusal 21 6 = says ∙ sym (words-over n (length out) (tests.leb-false n 16384 t)) in
-              let z : _≡_ {A = ℕ} 0 1 = cc same in
-              absurd (omega arith)
-          go (yea t) (nay s) =
-              let same : count k ≡ refusal 22 n
-              = says ∙ sym (words-short n (length out) (tests.leb-true n 16384 t) (tests.leb-false n (length out) s)) in
-              let z : _≡_ {A = ℕ} 0 1 = cc same in
-              absurd (omega arith)
-          go (yea t) (yea s) = fitted-long (tests.leb-true n 16384 t) (tests.leb-true n (length out) s) w
-
-  pub limited-states : 64 < j .states → Gives out (limited j (length out)) (refusal 21 1) out
-  unfolding within-limits require _>>_
-  limited-states h = gives-refusal out (rw (tests.lt-leb (j .states) 64 h))
-
-  -- k is the first limit that its rules exceed
-  module _ (few : j .states ≤ 64) {k : ℕ} (e : k ≡ first-place (j .rules)) where
-    pub limited-over : k < 6 → Gives out (limited j (length out)) (refusal 21 k) out
-    unfolding _>>_
-    limited-over h = let h′ : first-place (j .rules) < 6 = omega arith in gives-refusal out (rw (limits-over j few h′, e))
-
-    pub limited-within : 6 ≤ k → {x : Said} {y : List ℕ} → Gives out (fitted j (length out)) x y → Gives out (limited j (length out)) x y
-    limited-within h =
-        gives-by (ap (λ (c : Checked (Unit {0})). c >> lent (sheet-words j) (length out)) (limits-within j few (omega arith)))
-
 -- ---- join: its checks in their order
 
 module _ (first second : List ℕ) (room : ℕ) where
@@ -234,14 +149,21 @@ module _ (first second out : List ℕ) where
   pub first-refused : {r : Answer} {x : Refusal} → said r ≡ sheet-said first → r ≡ Error x → Joined (said-refusal x) out
   first-refused e c = let (i, p, f) = sheet-refused first e c in rw f (joins (gives-refusal out (join-first first second (length out) p)))
 
-  module _ (h : Passes first) where
-    pub second-refused : (z : Refusal) {r : Answer} {x : Refusal} → said r ≡ sheet-said second → r ≡ Error x
-        → ((i : ℕ) → said-refusal x ≡ refusal 9 i → said-refusal z ≡ refusal 9 (i + 20000)) → Joined (said-refusal z) out
-    second-refused z e c k =
-        let (i, r, f) = sheet-refused second e c in
-        rw (k i f) (joins (gives-refusal out (join-second first second (length out) (h .as-sheet) r)))
+  module _ {r : Answer} {n : ℕ} (e : said r ≡ sheet-said first) (c : r ≡ Count n) where
+    h : Passes first
+    h = sheet-counts first e c .0
 
-    module _ (k : Passes second) {a b : ℕ} (ea : a ≡ getD first 4 0) (eb : b ≡ getD second 4 0) where
+    pub second-refused : (z : Refusal) {q : Answer} {x : Refusal} → said q ≡ sheet-said second → q ≡ Error x
+        → ((i : ℕ) → said-refusal x ≡ refusal 9 i → said-refusal z ≡ refusal 9 (i + 20000)) → Joined (said-refusal z) out
+    second-refused z f d k =
+        let (i, r, g) = sheet-refused second f d in
+        rw (k i g) (joins (gives-refusal out (join-second first second (length out) (h .as-sheet) r)))
+
+    module _ {q : Answer} {m : ℕ} (f : said q ≡ sheet-said second) (d : q ≡ Count m) {a b : ℕ} (ea : a ≡ getD first 4 0)
+        (eb : b ≡ getD second 4 0) where
+      k : Passes second
+      k = sheet-counts second f d .0
+
       pub tags-refused : {g : ℕ} → g ≡ b → a ≢ b → Joined (refusal 20 g) out
       tags-refused eg d =
           let other : sheet-in first .tags ≢ sheet-in second .tags = λ e. d (ea ∙ tags-word h ∙ e ∙ sym (tags-word k) ∙ sym eb) in

@@ -1,20 +1,21 @@
--- Refusal 21: the checks of a joint sheet's limits, by the first that its rules exceed.
-use mathlib.Core.Path.{_≡_, refl, sym, ap, ap₂, _∙_}
+-- Refusal 21: the checks of a joint sheet's limits, by the first that its rules exceed, and of its words.
+use mathlib.Core.Path.{_≡_, refl, sym, ap, ap₂, _∙_, subst}
 use mathlib.Core.Bool.{Bool, true, false, cond}
 use mathlib.Core.List.{List}
-use Prim.Native.Nat.{ℕ, _*_, _≤_, _<_}
+use Prim.Native.Nat.{ℕ, _*_, _≤_, _<_, min}
 use native.Mathlib.Omega.{arith}
 use lib.Dec.{leb}
 use lib.ListN.{length, getD}
 use borrow.Author.Tests as tests
 use Rattle.model.specs.Lists.{every}
-use Rattle.model.specs.Answers.{Checked, refuses, require, _>>_}
+use Rattle.model.specs.Answers.{Said, count, refusal, Checked, refuses, require, _>>_}
 use Rattle.model.specs.Sheet.{Rule, Sheet, sheet-words}
 use Rattle.model.specs.Compose.{positions-of, arcs-of, steps-of, joint, within-limits}
 use Rattle.model.specs.Index.{Indexed}
 use Rattle.model.proofs.Tests.{Yes}
 use Rattle.model.proofs.ListLaws.{every-∈}
 use Rattle.model.proofs.PassedLaws.{in-range, states-word}
+use Rattle.page.specs.Page.{Writes}
 use Rattle.limits.specs.Limits.{first-of}
 use Rattle.limits.proofs.LimitLaws.{first-3, first-4}
 use Rattle.join_pairs.proofs.NumberLaws.{mul-le}
@@ -22,6 +23,10 @@ use Rattle.join_alike.specs.Alike.{joint-rules-in, Joinable, FewPositions}
 use Rattle.join_limits.specs.declared.Tally.{Tally}
 use Rattle.join_limits.specs.Limits.{place-in, first-place, LimitOf}
 use Rattle.join_sheets.specs.Sheets.{joint-in, WithinLimits}
+use Rattle.compose.specs.Joins.{lent, fitted, Gives, Fits, Limits}
+use Rattle.compose.proofs.AnswerLaws.{gives-by, gives-refusal, gives-short, gives-words}
+
+-- ---- the limits of rules
 
 abbrev first-of-all : (rules positions arcs steps : Bool) → ℕ
 first-of-all rules positions arcs steps = cond rules (first-of positions arcs steps) 2
@@ -38,53 +43,44 @@ refused true true false d e h = ap (refuses 21) (sym (first-4 d))
 refused true true true false e h = refl
 refused true true true true e h = absurd (omega arith)
 
-all-within : (a b c d : Bool) → 6 ≤ first-of-all a b c d → Yes a × Yes b × Yes c × Yes d
-all-within false b c d h = absurd (omega arith)
-all-within true false c d h = absurd (omega (arith, first-3 c d))
-all-within true true false d h = absurd (omega (arith, first-4 d))
-all-within true true true false h = absurd (omega arith)
-all-within true true true true h = (refl, refl, refl, refl)
-
-abbrev few-rules : List Rule → Bool
-few-rules rs = leb (length rs) 1024
+-- where none is exceeded, the words are left to check
+passed : (a b c d : Bool) (e : Checked (Unit {0})) → 6 ≤ first-of-all a b c d → Yes a × Yes b × (checks a b c d e ≡ e)
+unfolding require _>>_
+passed false b c d e h = absurd (omega arith)
+passed true false c d e h = absurd (omega (arith, first-3 c d))
+passed true true false d e h = absurd (omega (arith, first-4 d))
+passed true true true false e h = absurd (omega arith)
+passed true true true true e h = (refl, refl, refl)
 
 abbrev all-at-most : (Rule → ℕ) → ℕ → List Rule → Bool
 all-at-most f k rs = every (λ r. leb (f r) k) rs
 
--- the limits of a sheet's rules, and what is left to check where none is exceeded
 module _ (j : Sheet) (few : j .states ≤ 64) where
-  abbrev R : List Rule
-  R = j .rules
+  abbrev by : ((a b c d : Bool) → Checked (Unit {0}) → Type 0) → Type 0
+  by P =
+      P (leb (length (j .rules)) 1024) (all-at-most positions-of 64 (j .rules)) (all-at-most arcs-of 1024 (j .rules))
+      (all-at-most steps-of 32 (j .rules)) (require (leb (length (sheet-words j)) 16384) 21 6)
 
-  abbrev of-words : Checked (Unit {0})
-  of-words = require (leb (length (sheet-words j)) 16384) 21 6
-
-  after-states : within-limits j
-      ≡ checks (few-rules R) (all-at-most positions-of 64 R) (all-at-most arcs-of 1024 R) (all-at-most steps-of 32 R) of-words
+  after-states : by (λ a b c d e. within-limits j ≡ checks a b c d e)
   unfolding within-limits require _>>_
   after-states = rw (tests.le-leb (j .states) 64 few)
 
-  pub limits-over : first-place R < 6 → within-limits j ≡ refuses 21 (first-place R)
+  limits-over : first-place (j .rules) < 6 → within-limits j ≡ refuses 21 (first-place (j .rules))
   unfolding first-place place-in
-  limits-over h =
-      after-states ∙ refused (few-rules R) (all-at-most positions-of 64 R) (all-at-most arcs-of 1024 R)
-      (all-at-most steps-of 32 R) of-words h
+  limits-over h = after-states ∙ refused _ _ _ _ _ h
 
-  pub limits-within : 6 ≤ first-place R → within-limits j ≡ require (leb (length (sheet-words j)) 16384) 21 6
-  unfolding first-place place-in require _>>_
+  limits-within : 6 ≤ first-place (j .rules)
+      → (within-limits j ≡ require (leb (length (sheet-words j)) 16384) 21 6) × (length (j .rules) ≤ 1024) × FewPositions (j .rules)
+  unfolding first-place place-in
   limits-within h =
-      let (a, b, c, d) = all-within (few-rules R) (all-at-most positions-of 64 R) (all-at-most arcs-of 1024 R)
-      (all-at-most steps-of 32 R) h in
-      after-states ∙ rw (a, b, c, d)
+      let (a, b, e) = passed (leb (length (j .rules)) 1024) (all-at-most positions-of 64 (j .rules)) (all-at-most arcs-of 1024 (j .rules))
+      (all-at-most steps-of 32 (j .rules)) (require (leb (length (sheet-words j)) 16384) 21 6) h in (
+        after-states ∙ e,
+        tests.leb-true (length (j .rules)) 1024 a,
+        λ z m. tests.leb-true (positions-of z) 64 (every-∈ (λ r. leb (positions-of r) 64) b z m),
+      )
 
-pub within-few : (rs : List Rule) → 6 ≤ first-place rs → (length rs ≤ 1024) × FewPositions rs
-unfolding first-place place-in
-within-few rs h =
-    let (a, b, c, d) = all-within (few-rules rs) (all-at-most positions-of 64 rs) (all-at-most arcs-of 1024 rs)
-    (all-at-most steps-of 32 rs) h in
-    (tests.leb-true (length rs) 1024 a, λ z m. tests.leb-true (positions-of z) 64 (every-∈ (λ r. leb (positions-of r) 64) b z m))
-
--- ---- the limits on the way
+-- ---- the limit of states
 
 module _ {u i v j : List ℕ} (h : Indexed u i) (k : Indexed v j) {p q : ℕ} (ep : p ≡ getD u 1 0) (eq : q ≡ getD v 1 0) where
   product : p * q ≡ joint-in u v .states
@@ -97,8 +93,9 @@ module _ {u i v j : List ℕ} (h : Indexed u i) (k : Indexed v j) {p q : ℕ} (e
       let few-q : q ≤ 64 = omega (arith, states-word (k .sheet), in-range (k .sheet) .few-states) in
       mul-le p q few-p few-q
 
-  pub many-pairs : 64 < p * q → 64 < joint-in u v .states
-  many-pairs l = omega (arith, product)
+  pub states-over : 64 < p * q → (out : List ℕ) → Limits u v out (refusal 21 1) out
+  unfolding within-limits require _>>_
+  states-over l out = gives-refusal out (rw (tests.lt-leb (joint-in u v .states) 64 (omega (arith, product))))
 
   pub few-joinable : p * q ≤ 64 → Joinable u i v j
   unfolding joint
@@ -108,18 +105,59 @@ module _ {u i v j : List ℕ} (h : Indexed u i) (k : Indexed v j) {p q : ℕ} (e
     few = record { some-S = in-range (h .sheet) .some-states; some-T = in-range (k .sheet) .some-states; few = omega (arith, product) };
   }
 
-module _ {u i v j : List ℕ} (h : Joinable u i v j) where
-  pub few-joint : joint-in u v .states ≤ 64
+-- ---- the limits of rules, by their tally
+
+module _ {u i v j : List ℕ} (h : Joinable u i v j) {t : Tally} (k : LimitOf (joint-rules-in u v) t) where
+  few-joint : joint-in u v .states ≤ 64
   unfolding joint
   few-joint = h .few .few
 
-  pub within : {t : Tally} → LimitOf (joint-in u v .rules) t → 6 ≤ t .place → WithinLimits u i v j (t .rules) × (t .rules ≤ 1024)
+  first-limit : t .place ≡ first-place (joint-in u v .rules)
   unfolding joint
-  within {t} k l =
-      let (few, positions) = within-few (joint-in u v .rules) (omega (arith, k .place)) in
-      (record { both = h; few-positions = positions; number = k .rules l }, omega (arith, k .rules l))
+  first-limit = k .place
 
-  -- the tally of the rules of the joint sheet
-  pub joint-limit : {t : Tally} → LimitOf (joint-rules-in u v) t → LimitOf (joint-in u v .rules) t
-  unfolding joint
-  joint-limit k = k
+  pub rules-over : t .place < 6 → (out : List ℕ) → Limits u v out (refusal 21 (t .place)) out
+  unfolding _>>_
+  rules-over l out =
+      let l′ : first-place (joint-in u v .rules) < 6 = omega (arith, first-limit) in
+      gives-refusal out (rw (limits-over (joint-in u v) few-joint l′, first-limit))
+
+  module _ (l : 6 ≤ t .place) where
+    none-over : 6 ≤ first-place (joint-in u v .rules)
+    none-over = omega (arith, first-limit)
+
+    pub few-rules : t .rules ≤ 1024
+    unfolding joint
+    few-rules = omega (arith, k .rules l, limits-within (joint-in u v) few-joint none-over .1)
+
+    pub within-limits-of-rules : WithinLimits u i v j (t .rules)
+    unfolding joint
+    within-limits-of-rules =
+        record { both = h; few-positions = limits-within (joint-in u v) few-joint none-over .2; number = k .rules l }
+
+    pub rules-within : {out : List ℕ} {x : Said} {y : List ℕ} → Fits u v out x y → Limits u v out x y
+    rules-within {out} =
+        gives-by (ap (λ (c : Checked (Unit {0})). c >> lent (sheet-words (joint-in u v)) (length out))
+        (limits-within (joint-in u v) few-joint none-over .0))
+
+-- ---- the limit of words: n is their number, up to one more than the most
+
+module _ (j : Sheet) (out : List ℕ) {n : ℕ} (e : n ≡ min (length (sheet-words j)) 16385) where
+  pub words-over : 16384 < n → Gives out (fitted j (length out)) (refusal 21 6) out
+  unfolding require _>>_
+  words-over h = gives-refusal out (rw (tests.lt-leb (length (sheet-words j)) 16384 (omega arith)))
+
+  module _ (h : n ≤ 16384) where
+    long : length (sheet-words j) ≡ n
+    long = omega arith
+
+    fits : fitted j (length out) ≡ lent (sheet-words j) (length out)
+    unfolding require _>>_
+    fits = rw (tests.le-leb (length (sheet-words j)) 16384 (omega (arith, long)))
+
+    pub words-short : length out < n → Gives out (fitted j (length out)) (refusal 22 n) out
+    words-short l =
+        subst (λ (m : ℕ). Gives out (fitted j (length out)) (refusal 22 m) out) long (gives-short out (sheet-words j) fits (rw long l))
+
+    pub words-fit : {y : List ℕ} {i : ℕ} → n ≤ length out → Writes out 0 (sheet-words j) y i → Gives out (fitted j (length out)) (count i) y
+    words-fit l w = gives-words out (sheet-words j) fits (omega (arith, long)) (omega (arith, long)) w

@@ -13,12 +13,12 @@ use join_sheets::put_joint;
 use join_sheets::put_swapped;
 use layout::INDEX_WORDS;
 use layout::MOST_STATES;
+use layout::MOST_WORDS;
 use layout::STATES;
 use layout::TAGS;
 use layout::wide;
 use limits::PLACE_STATES;
 use limits::PLACE_WORDS;
-use limits::check_words;
 use model::Answer;
 use model::Refusal;
 use parts::at;
@@ -56,10 +56,13 @@ fn join_within(
     ensures { λ r. ⌜ Fits (now (first .entry)) (now (second .entry)) (now (out .entry)) (said r) (now (out .exit)) ⌝ }
 {
     let needed = joint_length(first, firsts, second, seconds, rules);
-    match check_words(needed, out.len()) {
-        Answer::Error(refusal) => Answer::Error(refusal),
-        Answer::Count(_) => Answer::Count(put_joint(first, firsts, second, seconds, rules, out)),
+    if MOST_WORDS < needed {
+        return Answer::Error(Refusal::JointLimit(PLACE_WORDS));
     }
+    if out.len() < needed {
+        return Answer::Error(Refusal::ShortBuffer(needed));
+    }
+    Answer::Count(put_joint(first, firsts, second, seconds, rules, out))
 }
 
 // The joint sheet of two sheets with few enough pairs of states: 21 from its place 2 on, or 22.

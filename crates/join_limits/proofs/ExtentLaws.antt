@@ -1,17 +1,16 @@
 -- How many positions, arcs and steps a rule and the joint rule of two have.
-use mathlib.Core.Path.{_≡_, refl, sym, ap, ap₂, _∙_}
-use mathlib.Core.Logic.{_≢_}
-use mathlib.Core.Bool.{Bool, true, false, _&&_}
-use mathlib.Core.List.{List, [], _∷_, _++_, map, flatMap}
+use mathlib.Core.Path.{_≡_, refl, sym, ap, ap₂, subst, _∙_}
+use mathlib.Core.Bool.{Bool, true, false, and-true}
+use mathlib.Core.List.{List, [], _∷_, map, flatMap}
 use mathlib.Core.Option.{Option, none, some}
-use Prim.Native.Nat.{ℕ, _+_, _-_, _*_, _≤_}
+use Prim.Native.Nat.{ℕ, _+_, _*_, _≤_}
 use native.Mathlib.Nat.{suc-mul}
 use native.Mathlib.Omega.{arith}
-use lib.Dec.{leb}
+use lib.Dec.{eqb, leb}
 use lib.ListN.{length, getD, length-append, length-map}
 use borrow.Author.Tests as tests
 use Rattle.model.specs.Lists.{every, numbers, row, grid}
-use Rattle.model.specs.Sheet.{Order, Step, and-step, Rule, one, two, three, order-words, set-words, count-words, RuleInRange, OrderInRange}
+use Rattle.model.specs.Sheet.{Order, Step, Rule, one, two, three, order-words, set-words, count-words, RuleInRange, OrderInRange}
 use Rattle.model.specs.Sheet.{CountInRange, IfAny}
 use Rattle.model.specs.Spans.{OrderAt, CountAt, there-is, order-part}
 use Rattle.model.specs.Index.{sheet-in}
@@ -20,11 +19,11 @@ use Rattle.model.specs.Compose.{Side, S, T, of-other, lift-arc, pair-arc, lift-
 use Rattle.model.specs.Compose.{positions-of, arcs-of, steps-of}
 use Rattle.model.proofs.ListLaws.{length-from}
 use Rattle.model.proofs.Spans.{word-here}
-use Rattle.model.proofs.PartLaws.{word-is}
 use Rattle.model.proofs.RuleWords.{order-room, is-there, not-there}
 use Rattle.limits.specs.Limits.{first-of}
 use Rattle.join_pairs.specs.declared.Sizes.{Sizes}
-use Rattle.join_pairs.specs.Sides.{sizes-of}
+use Rattle.join_pairs.specs.Sides.{sizes-of, FewPairs}
+use Rattle.join_pairs.proofs.NumberLaws.{mul-le, few-S, few-T}
 use Rattle.join_alike.specs.declared.Spot.{Spot}
 use Rattle.join_alike.specs.declared.RulePair.{RulePair}
 use Rattle.join_alike.specs.Spots.{rule-of, SpotOf, parts-of}
@@ -32,39 +31,17 @@ use Rattle.join_alike.specs.Alike.{Alike, pair-in}
 use Rattle.join_alike.proofs.RuleParts.{order-here, count-here}
 use Rattle.join_alike.proofs.AlikeLaws.{JointOf, texts, tags, contents, alike-paired, paired-rule}
 use Rattle.join_limits.specs.declared.Extent.{Extent}
-use Rattle.join_limits.specs.declared.Tally.{Tally}
-use Rattle.join_limits.specs.Limits.{of-parts, ExtentOf, Small, place-in, TallyOf}
+use Rattle.join_limits.specs.Limits.{of-parts, order-positions, order-arcs, count-steps, extent-of, joint-extent, Small, place-in}
+use Rattle.join_limits.specs.Limits.{TallyOf}
 
--- ---- the extent of a rule
+abbrev extent : (positions arcs steps : ℕ) → Extent
+extent positions arcs steps = record { positions = positions; arcs = arcs; steps = steps }
 
--- by its parts
-abbrev order-positions : Option Order → ℕ
-order-positions none = 0
-order-positions (some o) = o .positions
+pub extents-like : {p q a b k l : ℕ} → p ≡ q → a ≡ b → k ≡ l → extent p a k ≡ extent q b l
+extents-like e f g = λ i. extent (e i) (f i) (g i)
 
-abbrev order-arcs : Option Order → ℕ
-order-arcs none = 0
-order-arcs (some o) = length (o .arcs)
+-- ---- the extent of a rule of a sheet
 
-abbrev count-steps : Option (List Step) → ℕ
-count-steps none = 0
-count-steps (some ss) = length ss
-
-by-order : (x : Rule) → (order-positions (parts-of x .order) ≡ positions-of x) × (order-arcs (parts-of x .order) ≡ arcs-of x)
-unfolding positions-of arcs-of
-by-order (one k q) = (refl, refl)
-by-order (two g c q) = (refl, refl)
-by-order (three none φ q) = (refl, refl)
-by-order (three (some o) φ q) = (refl, refl)
-
-by-count : (x : Rule) → count-steps (parts-of x .count) ≡ steps-of x
-unfolding steps-of
-by-count (one k q) = refl
-by-count (two g c q) = refl
-by-count (three o none q) = refl
-by-count (three o (some ss) q) = refl
-
--- a rule's numbers are within the limits of a sheet
 small-order : (p : ℕ) (o : Option Order) → IfAny (OrderInRange p) o → (order-positions o ≤ 64) × (order-arcs o ≤ 1024)
 small-order p none r = (omega arith, omega arith)
 small-order p (some o) r = (r .few-positions, r .few-arcs)
@@ -73,69 +50,55 @@ small-count : (p : ℕ) (φ : Option (List Step)) → IfAny (CountInRange p) φ 
 small-count p none r = omega arith
 small-count p (some ss) r = r .few-steps
 
-small-parts : (p : ℕ) (x : Rule) → RuleInRange p 64 x
-    → (order-positions (parts-of x .order) ≤ 64) × (order-arcs (parts-of x .order) ≤ 1024) × (count-steps (parts-of x .count) ≤ 32)
-small-parts p (one k q) h = (omega arith, omega arith, omega arith)
-small-parts p (two g c q) h = (omega arith, omega arith, omega arith)
-small-parts p (three o φ q) h = let (m, n) = small-order p o (h .0) in (m, n, small-count p φ (h .1))
-
-pub small : (p : ℕ) (x : Rule) (e : Extent) → RuleInRange p 64 x → ExtentOf x e → Small e
-small p x e h k =
-    let (m, n, l) = small-parts p x h in
-    let (i, j) = by-order x in
-    record { positions = omega (arith, k .positions); arcs = omega (arith, k .arcs); steps = omega (arith, k .steps, by-count x) }
+small : (p : ℕ) (x : Rule) → RuleInRange p 64 x → Small (extent-of x)
+small p (one k q) h = record { positions = omega arith; arcs = omega arith; steps = omega arith }
+small p (two g c q) h = record { positions = omega arith; arcs = omega arith; steps = omega arith }
+small p (three o φ q) h =
+    let (m, n) = small-order p o (h .0) in
+    record { positions = m; arcs = n; steps = small-count p φ (h .1) }
 
 -- ---- by the code's tests
 
-positions-word : {p a : ℕ} {s : List ℕ} {o : Order} → OrderAt p s a o → getD s (a + 0) 0 ≡ o .positions
+positions-word : {p a : ℕ} {s : List ℕ} {o : Order} → OrderAt p s a o → getD s a 0 ≡ o .positions
 unfolding order-words set-words
-positions-word h = word-is (h .there) 0 (omega arith)
+positions-word h = word-here (h .there)
 
 steps-word : {p c : ℕ} {s : List ℕ} {ss : List Step} → CountAt p s c ss → getD s c 0 ≡ length ss
 unfolding count-words
 steps-word h = word-here (h .there)
 
-module _ {s : List ℕ} {x : Spot} (h : SpotOf s x) where
-  module _ {r : Bool} (e : r ≡ there-is (parts-of (rule-of s x) .count)) where
-    pub steps-there : r ≡ true → {c w : ℕ} → c ≡ x .at + 1 + length (order-part (parts-of (rule-of s x) .order)) → w ≡ getD s c 0 → w
-        ≡ steps-of (rule-of s x)
+module _ {s : List ℕ} {x : Spot} (h : SpotOf s x) {r : Bool} where
+  module _ (e : r ≡ there-is (parts-of (rule-of s x) .count)) where
+    pub steps-there : r ≡ true → {c w : ℕ} → c ≡ x .at + 1 + length (order-part (parts-of (rule-of s x) .order)) → w ≡ getD s c 0
+        → w ≡ extent-of (rule-of s x) .steps
     steps-there t at f =
         let (ss, i) = is-there (parts-of (rule-of s x) .count) (sym e ∙ t) in
-        f ∙ steps-word (count-here h at i) ∙ ap count-steps (sym i) ∙ by-count (rule-of s x)
+        f ∙ steps-word (count-here h at i) ∙ ap count-steps (sym i)
 
-    pub steps-none : r ≡ false → 0 ≡ steps-of (rule-of s x)
-    steps-none t = ap count-steps (sym (not-there (parts-of (rule-of s x) .count) (sym e ∙ t))) ∙ by-count (rule-of s x)
+    pub steps-none : r ≡ false → 0 ≡ extent-of (rule-of s x) .steps
+    steps-none t = ap count-steps (sym (not-there (parts-of (rule-of s x) .count) (sym e ∙ t)))
 
-  module _ {r : Bool} (e : r ≡ there-is (parts-of (rule-of s x) .order)) {k : ℕ} (steps : k ≡ steps-of (rule-of s x)) where
-    pub extent-ordered : r ≡ true → {m n : ℕ} → m ≡ getD s (x .at + 1) 0 → n ≡ getD s (x .at + 4) 0
-        → ExtentOf (rule-of s x) (record { positions = m; arcs = n; steps = k })
-    extent-ordered t {m} {n} em en =
+  -- an extent, and that it is small
+  module _ {k : ℕ} (steps : k ≡ extent-of (rule-of s x) .steps) (e : r ≡ there-is (parts-of (rule-of s x) .order)) where
+    abbrev Is : ℕ → ℕ → Type 0
+    Is m n = (extent m n k ≡ extent-of (rule-of s x)) × Small (extent m n k)
+
+    is-small : {m n : ℕ} → m ≡ extent-of (rule-of s x) .positions → n ≡ extent-of (rule-of s x) .arcs → Is m n
+    is-small em en =
+        let is = extents-like em en steps in
+        (is, subst Small (sym is) (small (sheet-in s .states) (rule-of s x) (h .begins .ranges)))
+
+    pub extent-ordered : r ≡ true → {m n : ℕ} → m ≡ getD s (x .at + 1) 0 → n ≡ getD s (x .at + 4) 0 → Is m n
+    extent-ordered t em en =
         let (o, i) = is-there (parts-of (rule-of s x) .order) (sym e ∙ t) in
         let at = order-here h i in
-        let here : x .at + 1 + 0 ≡ x .at + 1 = omega arith in
         let there : x .at + 1 + 3 ≡ x .at + 4 = omega arith in
-        let (positions, arcs) = by-order (rule-of s x) in
-        record {
-          positions = em ∙ rw here at (positions-word at) ∙ ap order-positions (sym i) ∙ positions;
-          arcs = en ∙ rw there at (order-room at .1) ∙ ap order-arcs (sym i) ∙ arcs;
-          steps = steps;
-        }
+        is-small (em ∙ positions-word at ∙ ap order-positions (sym i)) (en ∙ rw there at (order-room at .1) ∙ ap order-arcs (sym i))
 
-    pub extent-unordered : r ≡ false → ExtentOf (rule-of s x) (record { positions = 0; arcs = 0; steps = k })
+    pub extent-unordered : r ≡ false → Is 0 0
     extent-unordered t =
         let i = not-there (parts-of (rule-of s x) .order) (sym e ∙ t) in
-        let (positions, arcs) = by-order (rule-of s x) in
-        record { positions = ap order-positions (sym i) ∙ positions; arcs = ap order-arcs (sym i) ∙ arcs; steps = steps }
-
-module _ (x y first second both : ℕ) where
-  pub second-alone : x ≡ 0 → second ≡ of-parts x y first second both
-  second-alone e = rw e
-
-  pub first-alone : x ≢ 0 → y ≡ 0 → first ≡ of-parts x y first second both
-  first-alone d e = rw (tests.ne-eqb x 0 d, e)
-
-  pub both-there : x ≢ 0 → y ≢ 0 → both ≡ of-parts x y first second both
-  both-there d e = rw (tests.ne-eqb x 0 d, tests.ne-eqb y 0 e)
+        is-small (ap order-positions (sym i)) (ap order-arcs (sym i))
 
 -- ---- the extent of a joint rule
 
@@ -157,110 +120,76 @@ lifted-arcs side n o =
     length-grid (lift-arc side n) (o .arcs) (numbers (of-other side n)) ∙ ap (λ (k : ℕ). length (o .arcs) * k)
     (length-from (of-other side n) 0)
 
--- of two order parts
-joint-positions : (n : model.Sizes) (p q : ℕ) (o u : Option Order) → IfAny (OrderInRange p) o → IfAny (OrderInRange q) u
-    → order-positions (joint-order n o u)
-    ≡ of-parts (order-positions o) (order-positions u) (order-positions o) (order-positions u) (order-positions o * order-positions u)
-unfolding joint-order lift-order pair-order
-joint-positions n p q none none h k = refl
-joint-positions n p q none (some u) h k = refl
-joint-positions n p q (some o) none h k =
-    first-alone (o .positions) 0 (o .positions) 0 (o .positions * 0) (omega (arith, h .some-positions)) refl
-joint-positions n p q (some o) (some u) h k =
-    both-there (o .positions) (u .positions) (o .positions) (u .positions) (o .positions * u .positions)
-    (omega (arith, h .some-positions)) (omega (arith, k .some-positions))
+-- a part has a size
+has-size : {n : ℕ} → 1 ≤ n → eqb n 0 ≡ false
+has-size {n} h = tests.ne-eqb n 0 (omega arith)
 
-joint-arcs : (n : model.Sizes) (p q : ℕ) (o u : Option Order) → IfAny (OrderInRange p) o → IfAny (OrderInRange q) u
-    → order-arcs (joint-order n o u)
-    ≡ of-parts (order-positions o) (order-positions u) (order-arcs o * n .of-T) (order-arcs u * n .of-S) (order-arcs o * order-arcs u)
-unfolding joint-order pair-order
-joint-arcs n p q none none h k = omega arith
-joint-arcs n p q none (some u) h k = lifted-arcs T n u
-joint-arcs n p q (some o) none h k =
-    lifted-arcs S n o ∙ first-alone (o .positions) 0 (length (o .arcs) * n .of-T) (0 * n .of-S) (length (o .arcs) * 0)
-    (omega (arith, h .some-positions)) refl
-joint-arcs n p q (some o) (some u) h k =
-    length-grid (pair-arc (u .positions) (n .of-T)) (o .arcs) (u .arcs)
-    ∙ both-there (o .positions) (u .positions) (length (o .arcs) * n .of-T) (length (u .arcs) * n .of-S)
-    (length (o .arcs) * length (u .arcs)) (omega (arith, h .some-positions)) (omega (arith, k .some-positions))
+module _ (n : Sizes) (p q : ℕ) where
+  joint-orders : (o u : Option Order) → IfAny (OrderInRange p) o → IfAny (OrderInRange q) u
+      → (order-positions (joint-order (sizes-of n) o u)
+      ≡ of-parts (order-positions o) (order-positions u) (order-positions o) (order-positions u) (order-positions o * order-positions u))
+      × (order-arcs (joint-order (sizes-of n) o u)
+      ≡ of-parts (order-positions o) (order-positions u) (order-arcs o * n .t) (order-arcs u * n .s) (order-arcs o * order-arcs u))
+  unfolding joint-order lift-order pair-order
+  joint-orders none none h k = (refl, omega arith)
+  joint-orders none (some u) h k = (refl, lifted-arcs T (sizes-of n) u)
+  joint-orders (some o) none h k = (rw (has-size (h .some-positions)), rw (has-size (h .some-positions)) (lifted-arcs S (sizes-of n) o))
+  joint-orders (some o) (some u) h k = (
+    rw (has-size (h .some-positions), has-size (k .some-positions)),
+    rw (has-size (h .some-positions), has-size (k .some-positions)) (length-grid (pair-arc (u .positions) (n .t)) (o .arcs) (u .arcs)),
+  )
 
--- of two count parts
-joint-steps : (n : model.Sizes) (p q : ℕ) (φ ψ : Option (List Step)) → IfAny (CountInRange p) φ → IfAny (CountInRange q) ψ
-    → count-steps (joint-count n φ ψ) ≡ of-parts (count-steps φ) (count-steps ψ) (count-steps φ) (count-steps ψ)
-    (count-steps φ + count-steps ψ + 1)
-unfolding joint-count
-joint-steps n p q none none h k = refl
-joint-steps n p q none (some ts) h k = length-map ts (lift-step T n 0)
-joint-steps n p q (some ss) none h k =
-    length-map ss (lift-step S n 0) ∙ first-alone (length ss) 0 (length ss) 0 (length ss + 0 + 1) (omega (arith, h .some-steps)) refl
-joint-steps n p q (some ss) (some ts) h k =
-    let lower = map (lift-step S n 0) ss in
-    let upper = map (lift-step T n (length ss)) ts in
-    let last = and-step (length ss - 1) (length ss + (length ts - 1)) ∷ [] in
-    let long : length (lower ++ (upper ++ last)) ≡ length ss + length ts + 1
-    = omega (
-      arith,
-      length-append lower (upper ++ last),
-      length-append upper last,
-      length-map ss (lift-step S n 0),
-      length-map ts
-          (lift-step T n (length ss)),
-    ) in
-    long ∙ both-there (length ss) (length ts) (length ss) (length ts) (length ss + length ts + 1) (omega (arith, h .some-steps))
-    (omega (arith, k .some-steps))
+  joint-counts : (φ ψ : Option (List Step)) → IfAny (CountInRange p) φ → IfAny (CountInRange q) ψ
+      → count-steps (joint-count (sizes-of n) φ ψ)
+      ≡ of-parts (count-steps φ) (count-steps ψ) (count-steps φ) (count-steps ψ) (count-steps φ + count-steps ψ + 1)
+  unfolding joint-count
+  joint-counts none none h k = refl
+  joint-counts none (some ts) h k = length-map ts (lift-step T (sizes-of n) 0)
+  joint-counts (some ss) none h k = rw (has-size (h .some-steps)) (length-map ss (lift-step S (sizes-of n) 0))
+  joint-counts (some ss) (some ts) h k =
+      rw (has-size (h .some-steps), has-size (k .some-steps)) (simp (length-append, length-map) (omega arith))
 
--- ---- the joint rule of two with one key
+  joint-is : {x y z : Rule} → JointOf (sizes-of n) x y z → RuleInRange p 64 x → RuleInRange q 64 y
+      → extent-of z ≡ joint-extent n (extent-of x) (extent-of y)
+  joint-is (texts k s t) h i = let e : 0 * n .s ≡ 0 = omega arith in rw e
+  joint-is (tags g c d s t) h i = let e : 0 * n .s ≡ 0 = omega arith in rw e
+  joint-is (contents o u φ ψ s t) h i =
+      let (positions, arcs) = joint-orders o u (h .0) (i .0) in
+      extents-like positions arcs (joint-counts φ ψ (h .1) (i .1))
 
--- its numbers, by those of the two
-record JointExtent (n : model.Sizes) (x y z : Rule) : Type 0 where
-  positions : positions-of z
-      ≡ of-parts (positions-of x) (positions-of y) (positions-of x) (positions-of y) (positions-of x * positions-of y)
-  arcs : arcs-of z ≡ of-parts (positions-of x) (positions-of y) (arcs-of x * n .of-T) (arcs-of y * n .of-S) (arcs-of x * arcs-of y)
-  steps : steps-of z ≡ of-parts (steps-of x) (steps-of y) (steps-of x) (steps-of y) (steps-of x + steps-of y + 1)
+-- what the code makes of two extents
+pub products-small : {x y : Extent} {n : Sizes} → Small x × Small y × FewPairs (sizes-of n)
+    → (x .positions * y .positions ≤ 64 * 64) × (x .arcs * n .t ≤ 1024 * 64) × (y .arcs * n .s ≤ 1024 * 64)
+    × (x .arcs * y .arcs ≤ 1024 * 1024)
+products-small (x, y, few) = (
+  mul-le _ _ (x .positions) (y .positions),
+  mul-le _ _ (x .arcs) (few-T few),
+  mul-le _ _ (y .arcs) (few-S few),
+  mul-le _ _ (x .arcs) (y .arcs),
+)
 
-joint-extent : {n : model.Sizes} {x y z : Rule} (p q : ℕ) → JointOf n x y z → RuleInRange p 64 x → RuleInRange q 64 y → JointExtent n x y z
+-- ---- the tally of one rule
+
+by-order : (x : Rule) → (positions-of x ≡ extent-of x .positions) × (arcs-of x ≡ extent-of x .arcs) × (steps-of x ≡ extent-of x .steps)
 unfolding positions-of arcs-of steps-of
-joint-extent p q (texts k s t) h i = record { positions = refl; arcs = omega arith; steps = refl }
-joint-extent p q (tags g c d s t) h i = record { positions = refl; arcs = omega arith; steps = refl }
-joint-extent {n} p q (contents o u φ ψ s t) h i =
-    let (xp, xa) = by-order (three o φ s) in
-    let (yp, ya) = by-order (three u ψ t) in
-    let (zp, za) = by-order (three (joint-order n o u) (joint-count n φ ψ) 0) in
-    let xs = by-count (three o φ s) in
-    let ys = by-count (three u ψ t) in
-    let zs = by-count (three (joint-order n o u) (joint-count n φ ψ) 0) in
-    record {
-      positions = sym zp ∙ rw (xp, yp) at (joint-positions n p q o u (h .0) (i .0));
-      arcs = sym za ∙ rw (xp, yp, xa, ya) at (joint-arcs n p q o u (h .0) (i .0));
-      steps = sym zs ∙ rw (xs, ys) at (joint-steps n p q φ ψ (h .1) (i .1));
-    }
+by-order (one k q) = (refl, refl, refl)
+by-order (two g c q) = (refl, refl, refl)
+by-order (three none none q) = (refl, refl, refl)
+by-order (three none (some ss) q) = (refl, refl, refl)
+by-order (three (some o) none q) = (refl, refl, refl)
+by-order (three (some o) (some ss) q) = (refl, refl, refl)
 
-like : {x x′ y y′ f f′ s s′ b b′ : ℕ} → x ≡ x′ → y ≡ y′ → f ≡ f′ → s ≡ s′ → b ≡ b′ → of-parts x y f s b ≡ of-parts x′ y′ f′ s′ b′
-like ex ey ef es eb = rw (ex, ey, ef, es, eb)
-
-and-true : (b : Bool) → b && true ≡ b
-and-true true = refl
-and-true false = refl
-
--- the place of one rule
-one-place : (z : Rule) {m n k l : ℕ} → m ≡ positions-of z → n ≡ arcs-of z → k ≡ steps-of z → l
-    ≡ first-of (leb m 64) (leb n 1024) (leb k 32) → l ≡ place-in (z ∷ [])
+one-place : (z : Rule) {e : Extent} → e ≡ extent-of z → first-of (leb (e .positions) 64) (leb (e .arcs) 1024) (leb (e .steps) 32)
+    ≡ place-in (z ∷ [])
 unfolding place-in every
-one-place z {m} {n} {k} em en ek e = e ∙ sym (rw (← em, ← en, ← ek, and-true (leb m 64), and-true (leb n 1024), and-true (leb k 32)))
+one-place z i = let (p, q, r) = by-order z in rw (i, p, q, r) (simp and-true)
 
-module _ {u v : List ℕ} {n : Sizes} {r : RulePair} (h : Alike u v n r) {x y : Extent} (i : ExtentOf (rule-of u (r .s)) x)
-    (j : ExtentOf (rule-of v (r .t)) y) where
-  pub pair-tallied : {m a k l : ℕ} → m ≡ of-parts (x .positions) (y .positions) (x .positions) (y .positions) (x .positions * y .positions)
-      → a ≡ of-parts (x .positions) (y .positions) (x .arcs * n .t) (y .arcs * n .s) (x .arcs * y .arcs)
-      → k ≡ of-parts (x .steps) (y .steps) (x .steps) (y .steps) (x .steps + y .steps + 1)
-      → l ≡ first-of (leb m 64) (leb a 1024) (leb k 32) → TallyOf (pair-in u v n r) (record { rules = 1; place = l })
-  pair-tallied em ea ek e =
-      let (z, w) = alike-paired h in
-      let all = joint-extent (sheet-in u .states) (sheet-in v .states) w (h .first .begins .ranges) (h .second .begins .ranges) in
-      let m = em ∙ like (i .positions) (j .positions) (i .positions) (j .positions) (ap₂ (_*_) (i .positions) (j .positions)) ∙ sym
-      (all .positions) in
-      let a = ea ∙ like (i .positions) (j .positions) (ap (λ (b : ℕ). b * n .t) (i .arcs)) (ap (λ (b : ℕ). b * n .s) (j .arcs))
-      (ap₂ (_*_) (i .arcs) (j .arcs)) ∙ sym (all .arcs) in
-      let k = ek ∙ like (i .steps) (j .steps) (i .steps) (j .steps) (ap₂ (λ (b c : ℕ). b + c + 1) (i .steps) (j .steps)) ∙ sym
-      (all .steps) in
-      rw (paired-rule w) (record { rules = refl; place = one-place z m a k e })
+pub pair-tallied : {u v : List ℕ} {n : Sizes} {r : RulePair} → Alike u v n r → {x y z : Extent} → x ≡ extent-of (rule-of u (r .s))
+    → y ≡ extent-of (rule-of v (r .t)) → z ≡ joint-extent n x y
+    → {l : ℕ} → l ≡ first-of (leb (z .positions) 64) (leb (z .arcs) 1024) (leb (z .steps) 32)
+    → TallyOf (pair-in u v n r) (record { rules = 1; place = l })
+pair-tallied {u} {v} {n} h i j k e =
+    let (z, w) = alike-paired h in
+    let joint = joint-is n (sheet-in u .states) (sheet-in v .states) w (h .first .begins .ranges) (h .second .begins .ranges) in
+    let is = k ∙ ap₂ (joint-extent n) i j ∙ sym joint in
+    rw (paired-rule w) (record { rules = refl; place = e ∙ one-place z is })

@@ -1,7 +1,7 @@
 -- Tallies of joint rules: of a list in two parts, of a loop, and what they say of the limits.
 use mathlib.Core.Path.{_≡_, refl, sym, ap, _∙_}
-use mathlib.Core.Bool.{Bool, true, false, cond, _&&_}
-use mathlib.Core.List.{List, [], _∷_, _++_, flatMap}
+use mathlib.Core.Bool.{Bool, true, false, _&&_, and-assoc}
+use mathlib.Core.List.{List, [], _∷_, _++_}
 use Prim.Native.Nat.{ℕ, _+_, _≤_, _<_, min}
 use native.Mathlib.Omega.{arith}
 use lib.Dec.{leb}
@@ -12,7 +12,6 @@ use Rattle.model.specs.Sheet.{Rule}
 use Rattle.model.specs.Compose as model
 use Rattle.model.specs.Compose.{positions-of, arcs-of, steps-of, pair-rule}
 use Rattle.model.specs.Index.{rules-in}
-use Rattle.model.proofs.Tests.{Told, yea, nay, told}
 use Rattle.model.proofs.ListLaws.{length-each}
 use Rattle.model.proofs.JoinRange.{pair-rule-count}
 use Rattle.model.proofs.PassedLaws.{in-range}
@@ -29,11 +28,7 @@ use Rattle.join_limits.specs.Limits.{place-in, first-place, TallyOf, Tal
 every-parts : {A : Type 0} (f : A → Bool) (l m : List A) → every f (l ++ m) ≡ every f l && every f m
 unfolding every
 every-parts f [] m = refl
-every-parts f (x ∷ l) m = go (f x) (every-parts f l m)
-  where
-    go : (b : Bool) → every f (l ++ m) ≡ every f l && every f m → b && every f (l ++ m) ≡ (b && every f l) && every f m
-    go true h = h
-    go false h = refl
+every-parts f (x ∷ l) m = rw (every-parts f l m) (sym (and-assoc (f x) (every f l) (every f m)))
 
 place-both : (a b : Bool) {k : ℕ} → k ≤ 6 → place (a && b) k ≡ min (place a k) (place b k)
 place-both true true h = omega arith
@@ -118,17 +113,13 @@ module _ {u v index : List ℕ} {x : Spot} (h : RowOf u v index x) where
 
 -- ---- the first of all limits
 
-pub limit-of : {rs : List Rule} {t r : Tally} → Tallied rs t → r .rules ≡ t .rules → r .place ≡ cond (leb (t .rules) 1024) (t .place) 2
-    → LimitOf rs r
-unfolding first-place
-limit-of {rs} {t} {r} h er ep = go (told (leb (t .rules) 1024))
-  where
-    go : Told (leb (t .rules) 1024) → LimitOf rs r
-    go (yea b) =
-        let k = h .few (tests.leb-true (t .rules) 1024 b) in
-        let few = tests.le-leb (length rs) 1024 (omega (arith, k .rules, tests.leb-true (t .rules) 1024 b)) in
-        record { place = rw b at ep ∙ k .place ∙ sym (rw few); rules = λ _. er ∙ k .rules }
-    go (nay b) =
-        let many = tests.lt-leb (length rs) 1024 (h .many (tests.leb-false (t .rules) 1024 b)) in
-        let two : r .place ≡ 2 = rw b at ep in
-        record { place = two ∙ sym (rw many); rules = λ l. absurd (omega arith) }
+module _ {rs : List Rule} {t : Tally} (h : Tallied rs t) where
+  pub limit-many : 1024 < t .rules → LimitOf rs (record { rules = t .rules; place = 2 })
+  unfolding first-place
+  limit-many l = record { place = sym (rw (tests.lt-leb (length rs) 1024 (h .many l))); rules = λ l. absurd (omega arith) }
+
+  pub limit-few : t .rules ≤ 1024 → LimitOf rs t
+  unfolding first-place
+  limit-few l =
+      let k = h .few l in
+      record { place = k .place ∙ sym (rw (tests.le-leb (length rs) 1024 (omega (arith, k .rules)))); rules = λ _. k .rules }

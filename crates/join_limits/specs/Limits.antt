@@ -2,13 +2,16 @@
 use mathlib.Core.Path.{_≡_}
 use mathlib.Core.Bool.{cond}
 use mathlib.Core.List.{List}
-use Prim.Native.Nat.{ℕ, _≤_, _<_}
+use mathlib.Core.Option.{Option, none, some}
+use Prim.Native.Nat.{ℕ, _+_, _*_, _≤_, _<_}
 use lib.Dec.{eqb, leb}
 use lib.ListN.{length}
 use Rattle.model.specs.Lists.{every}
-use Rattle.model.specs.Sheet.{Rule}
+use Rattle.model.specs.Sheet.{Order, Step, Rule}
 use Rattle.model.specs.Compose.{positions-of, arcs-of, steps-of}
 use Rattle.limits.specs.Limits.{first-of}
+use Rattle.join_pairs.specs.declared.Sizes.{Sizes}
+use Rattle.join_alike.specs.Spots.{parts-of}
 use Rattle.join_limits.specs.declared.Extent.{Extent}
 use Rattle.join_limits.specs.declared.Tally.{Tally}
 
@@ -18,11 +21,34 @@ use Rattle.join_limits.specs.declared.Tally.{Tally}
 abbrev pub of-parts : (x y first second both : ℕ) → ℕ
 of-parts x y first second both = cond (eqb x 0) second (cond (eqb y 0) first both)
 
--- what the code finds of a rule
-pub record ExtentOf (x : Rule) (e : Extent) : Type 0 where
-  pub positions : e .positions ≡ positions-of x
-  pub arcs : e .arcs ≡ arcs-of x
-  pub steps : e .steps ≡ steps-of x
+-- how many positions, arcs and steps a rule has, by its parts
+abbrev pub order-positions : Option Order → ℕ
+order-positions none = 0
+order-positions (some o) = o .positions
+
+abbrev pub order-arcs : Option Order → ℕ
+order-arcs none = 0
+order-arcs (some o) = length (o .arcs)
+
+abbrev pub count-steps : Option (List Step) → ℕ
+count-steps none = 0
+count-steps (some ss) = length ss
+
+abbrev pub extent-of : Rule → Extent
+extent-of x = record {
+  positions = order-positions (parts-of x .order);
+  arcs = order-arcs (parts-of x .order);
+  steps = count-steps (parts-of x .count);
+}
+
+-- and the joint rule of two: pairs of positions and of arcs, or one's arcs, each for every state of the other sheet; an `and` closes the
+-- steps of both
+abbrev pub joint-extent : Sizes → Extent → Extent → Extent
+joint-extent n x y = record {
+  positions = of-parts (x .positions) (y .positions) (x .positions) (y .positions) (x .positions * y .positions);
+  arcs = of-parts (x .positions) (y .positions) (x .arcs * n .t) (y .arcs * n .s) (x .arcs * y .arcs);
+  steps = of-parts (x .steps) (y .steps) (x .steps) (y .steps) (x .steps + y .steps + 1);
+}
 
 -- the limits of a sheet's rule
 pub record Small (e : Extent) : Type 0 where

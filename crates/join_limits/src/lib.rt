@@ -1,13 +1,10 @@
 // The limits of a joint sheet's rules, by a tally of them.
 ghost use mathlib.Core.Path.{_≡_};
-ghost use mathlib.Core.Bool.{cond};
-ghost use Prim.Native.Nat.{_+_, _*_, _≤_, min};
-ghost use lib.Dec.{leb};
-ghost use Rattle.model.specs.Compose.{steps-of};
+ghost use Prim.Native.Nat.{_+_, _≤_, min};
 ghost use Rattle.join_pairs.specs.Sides.{sizes-of, FewPairs};
 ghost use Rattle.join_alike.specs.Spots.{rule-of, SpotOf};
 ghost use Rattle.join_alike.specs.Alike.{joint-rules-in, Joinable, RowOf, row-in, Alike, pair-in};
-ghost use Rattle.join_limits.specs.Limits.{of-parts, Small, ExtentOf, TallyOf, Tallied, LimitOf};
+ghost use Rattle.join_limits.specs.Limits.{of-parts, extent-of, joint-extent, Small, TallyOf, Tallied, LimitOf};
 use join_alike::RulePair;
 use join_alike::Spot;
 use join_alike::count_at;
@@ -45,7 +42,7 @@ pub struct Tally {
 // How many steps a rule has.
 fn steps_at(words: &[u32], x: Spot) -> u32
     requires { ⌜ SpotOf (now words) x ⌝ }
-    ensures { λ r. ⌜ r ≡ steps-of (rule-of (now (words .entry)) x) ⌝ }
+    ensures { λ r. ⌜ r ≡ extent-of (rule-of (now (words .entry)) x) .steps ⌝ }
 {
     if with_count(words, x) {
         return at(words, count_at(words, x));
@@ -56,7 +53,7 @@ fn steps_at(words: &[u32], x: Spot) -> u32
 // The extent of a rule.
 fn extent_at(words: &[u32], x: Spot) -> Extent
     requires { ⌜ SpotOf (now words) x ⌝ }
-    ensures is { λ r. ⌜ ExtentOf (rule-of (now (words .entry)) x) r ⌝ }
+    ensures is { λ r. ⌜ r ≡ extent-of (rule-of (now (words .entry)) x) ⌝ }
     ensures small { λ r. ⌜ Small r ⌝ }
 {
     let steps = steps_at(words, x);
@@ -75,46 +72,31 @@ fn extent_at(words: &[u32], x: Spot) -> Extent
     }
 }
 
-// How many positions the joint rule of two has: pairs of positions if both have an order part.
-fn joint_positions(x: Extent, y: Extent) -> u32
-    requires { ⌜ Small x × Small y ⌝ }
-    ensures { λ r. ⌜ r ≡ of-parts (x .positions) (y .positions) (x .positions) (y .positions) (x .positions * y .positions) ⌝ }
+// A number of a joint part, by the sizes of two parts, where size 0 is no part.
+fn of_parts(x: u32, y: u32, first: u32, second: u32, both: u32) -> u32
+    ensures { λ r. ⌜ r ≡ of-parts x y first second both ⌝ }
 {
-    if x.positions == 0 {
-        return y.positions;
+    if x == 0 {
+        return second;
     }
-    if y.positions == 0 {
-        return x.positions;
+    if y == 0 {
+        return first;
     }
-    x.positions * y.positions
+    both
 }
 
-// How many arcs it has: pairs of arcs, or one's arcs, each for every state of the other sheet.
-fn joint_arcs(x: Extent, y: Extent, sizes: Sizes) -> u32
+// The extent of the joint rule of two.
+fn joint_extent(x: Extent, y: Extent, sizes: Sizes) -> Extent
     requires { ⌜ Small x × Small y × FewPairs (sizes-of sizes) ⌝ }
-    ensures { λ r. ⌜ r ≡ of-parts (x .positions) (y .positions) (x .arcs * sizes .t) (y .arcs * sizes .s) (x .arcs * y .arcs) ⌝ }
+    ensures { λ r. ⌜ r ≡ joint-extent sizes x y ⌝ }
 {
-    if x.positions == 0 {
-        return y.arcs * sizes.s;
+    let p = x.positions;
+    let q = y.positions;
+    Extent {
+        positions: of_parts(p, q, p, q, p * q),
+        arcs: of_parts(p, q, x.arcs * sizes.t, y.arcs * sizes.s, x.arcs * y.arcs),
+        steps: of_parts(x.steps, y.steps, x.steps, y.steps, x.steps + y.steps + 1),
     }
-    if y.positions == 0 {
-        return x.arcs * sizes.t;
-    }
-    x.arcs * y.arcs
-}
-
-// How many steps it has: those of both, and an `and` if both have a count part.
-fn joint_steps(x: Extent, y: Extent) -> u32
-    requires { ⌜ Small x × Small y ⌝ }
-    ensures { λ r. ⌜ r ≡ of-parts (x .steps) (y .steps) (x .steps) (y .steps) (x .steps + y .steps + 1) ⌝ }
-{
-    if x.steps == 0 {
-        return y.steps;
-    }
-    if y.steps == 0 {
-        return x.steps;
-    }
-    x.steps + y.steps + 1
 }
 
 // The tally of the joint rule of two rules with one key.
@@ -124,12 +106,11 @@ fn tally_pair(first: &[u32], second: &[u32], rules: RulePair, sizes: Sizes) -> T
 {
     let x = extent_at(first, rules.s);
     let y = extent_at(second, rules.t);
-    let place = first_over(
-        joint_positions(x, y),
-        joint_arcs(x, y, sizes),
-        joint_steps(x, y),
-    );
-    Tally { rules: 1, place }
+    let z = joint_extent(x, y, sizes);
+    Tally {
+        rules: 1,
+        place: first_over(z.positions, z.arcs, z.steps),
+    }
 }
 
 // The tally of some rules and of more.
@@ -195,24 +176,17 @@ fn tally_rows(first: &[u32], firsts: &[u32], second: &[u32], seconds: &[u32]) ->
     tally
 }
 
-// A tally with the limit of rules, which comes before the others.
-fn with_rules(t: Tally) -> Tally
-    ensures rules { λ r. ⌜ r .rules ≡ t .rules ⌝ }
-    ensures place { λ r. ⌜ r .place ≡ cond (leb (t .rules) 1024) (t .place) 2 ⌝ }
-{
-    if MOST_RULES < t.rules {
-        return Tally {
-            rules: t.rules,
-            place: PLACE_RULES,
-        };
-    }
-    t
-}
-
 // The first limit that the joint rules of two sheets exceed, and where they exceed none, how many there are.
 pub fn tally_rules(first: &[u32], firsts: &[u32], second: &[u32], seconds: &[u32]) -> Tally
     requires { ⌜ Joinable (now first) (now firsts) (now second) (now seconds) ⌝ }
     ensures { λ r. ⌜ LimitOf (joint-rules-in (now (first .entry)) (now (second .entry))) r ⌝ }
 {
-    with_rules(tally_rows(first, firsts, second, seconds))
+    let tally = tally_rows(first, firsts, second, seconds);
+    if MOST_RULES < tally.rules {
+        return Tally {
+            rules: tally.rules,
+            place: PLACE_RULES,
+        };
+    }
+    tally
 }

@@ -1,6 +1,6 @@
--- `join_within` meets its contract.
+-- `join_within` meets its contract: the limit of words, then their room.
 use Rattle.model.specs.Answers.{said, said-refusal}
-use Rattle.compose.proofs.AnswerLaws.{fitted-refused, fitted-words}
+use Rattle.compose.proofs.LimitChecks.{words-over, words-short, words-fit}
 use borrow.Author.Needs.{needs}
 use Rattle.compose.proofs.join_within.Statement.{statement}
 use Rattle.compose.proofs.join_within.Tie as tie
@@ -11,17 +11,8 @@ join-within-spec =
     tie.close
     (tie.spec
     (λ c κs. search needs)
+    (λ c. search (words-over, needs))
+    (λ c. search (words-short, needs))
     (λ c κs. search needs)
     (λ c. search needs)
-    (λ c. search needs)
-    (λ c κs. search needs)
-    (λ c. fitted-refused _ _ (c .before .before .before .before .joint-length .ensures) (c .before .before .before .check-words .ensures)
-    (c .before .refusal .given .1))
-    (λ c. search needs)
-    (λ c.
-    let after-put-joint = c .before .before in
-    let after-enum-told = after-put-joint .before .before in
-    let after-check-words = after-enum-told .before .before in
-    let after-joint-length = after-check-words .before in
-    fitted-words _ _ (after-joint-length .joint-length .ensures) (after-check-words .check-words .ensures)
-    (after-enum-told .enum-told .given .1) (after-put-joint .put-joint .ensures)))
+    (λ c. search (words-fit, needs)))

@@ -14,15 +14,10 @@ swap-spec =
     (λ c. search needs)
     (λ c. search needs)
     (λ c. swap-short _ _ (c .before .before .before .before .check .ensures) (c .before .before .n .given .1) (c .if1 .taken))
-    (λ c κs.
-    let after-n = c .before .before .before in
-    let after-check = after-n .before .before in
-    sheet-counts _ (after-check .check .ensures) (after-n .n .given .1) .0)
+    (λ c κs. sheet-counts _ (c .before .before .before .before .before .check .ensures) (c .before .before .before .n .given .1) .0)
     (λ c. swap-refused _ _ (c .before .before .before .check .ensures) (c .before .refusal .given .1))
     (λ c. search needs)
     (λ c.
-    let after-put-swapped = c .before .before in
-    let after-if1 = after-put-swapped .before .before in
-    let after-n = after-if1 .before .before in
-    let after-check = after-n .before .before in
-    swap-written _ _ (after-check .check .ensures) (after-n .n .given .1) (after-if1 .if1 .left) (after-put-swapped .put-swapped .ensures)))
+    let room = c .before .before .before .before in
+    let counted = room .before .before in
+    swap-written _ _ (counted .before .before .check .ensures) (counted .n .given .1) (room .if1 .left) (c .before .before .put-swapped .ensures)))

@@ -13,11 +13,4 @@ joint-map-spec =
     (λ c κs. search needs)
     (λ c κs. search needs)
     (λ c κs. search needs)
-    (λ c.
-    let after-with-count2 = c .before in
-    let after-with-count = after-with-count2 .before in
-    let after-with-order2 = after-with-count .before in
-    let after-with-order = after-with-order2 .before in
-    let start = after-with-order .before .before .before .before .before in
-    map-made _ _ (start .args .rules) (after-with-order .with-order .ensures) (after-with-order2 .with-order2 .ensures)
-    (after-with-count .with-count .ensures) (after-with-count2 .with-count2 .ensures) (c .content-map .ensures)))
+    (λ c. search (map-made, needs)))

@@ -11,8 +11,4 @@ joint-target-spec =
     (λ c κs. search needs)
     (λ c κs. search needs)
     (λ c κs. targets-small (c .before .before .before .before .pre) (c .before .at .ensures) (c .at2 .ensures))
-    (λ c.
-    let after-at2 = c .before in
-    let after-at = after-at2 .before in
-    let start = after-at .before .before .before in
-    targets-pair (start .pre) (after-at .at .ensures) (after-at2 .at2 .ensures) (c .pair .ensures .0)))
+    (λ c. search (targets-pair, needs)))

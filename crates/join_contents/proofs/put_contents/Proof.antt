@@ -17,14 +17,12 @@ put-contents-spec =
     (λ c κs. search needs)
     (λ c. search needs)
     (λ c.
-    let after-put2 = c .before .before in
-    let after-joint-target = after-put2 .before in
-    let after-put-count = after-joint-target .before .before .before .before in
-    let after-put-order = after-put-count .before .before .before .before in
-    let after-put = after-put-order .before .before .before .before in
-    let after-joint-map = after-put .before in
-    let start = after-joint-map .before .before .before .before .before in
-    let words = content-words-in (start .pre .0) (start .pre .1 .1 .0) (start .pre .1 .1 .1) (after-joint-map .joint-map .ensures)
-    (after-joint-target .joint-target .ensures) in
-    as-words words (then (after-put .put .ensures) (then (after-put-order .put-order .ensures)
-    (then (after-put-count .put-count .ensures) (after-put2 .put2 .ensures))))))
+    let target = c .before .before .before in
+    let counted = target .before .before .before .before in
+    let ordered = counted .before .before .before .before in
+    let mapped = ordered .before .before .before .before in
+    let begun = mapped .before in
+    let start = begun .before .before .before .before .before in
+    as-words (content-words-in (start .pre .0) (start .pre .1 .1) (begun .joint-map .ensures) (target .joint-target .ensures))
+    (then (mapped .put .ensures) (then (ordered .put-order .ensures)
+    (then (counted .put-count .ensures) (c .before .before .put2 .ensures))))))

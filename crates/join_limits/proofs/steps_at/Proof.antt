@@ -11,6 +11,5 @@ steps-at-spec =
     (λ c κs. search needs)
     (λ c κs. search needs)
     (λ c κs. search needs)
-    (λ c. steps-there (c .before .before .before .before .before .pre) (c .before .before .before .with-count .ensures)
-    (c .before .before .if1 .taken) (c .before .count-at .ensures) (c .at .ensures))
-    (λ c. steps-none (c .before .before .before .pre) (c .before .with-count .ensures) (c .if1 .left)))
+    (λ c. search (steps-there, needs))
+    (λ c. search (steps-none, needs)))

@@ -12,11 +12,4 @@ tally-pair-spec =
     (λ c κs. search needs)
     (λ c κs. search needs)
     (λ c κs. search needs)
-    (λ c κs. search needs)
-    (λ c κs. search needs)
-    (λ c.
-    let extents = c .before .before .before in
-    pair-tallied ((c .before .before .before .before .before .before .before .before .pre))
-    (extents .before .before .extent-at .ensures .0) (extents .before .extent-at2 .ensures .0)
-    (extents .joint-positions .ensures) (c .before .before .joint-arcs .ensures) (c .before .joint-steps .ensures)
-    (c .first-over .ensures)))
+    (λ c. search (pair-tallied, needs)))

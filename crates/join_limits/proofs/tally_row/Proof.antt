@@ -32,9 +32,8 @@ tally-row-spec =
     (n .ensures .1) (c .before .before .at .ensures) (c .before .wide .ensures) (c .first-alike .ensures .0) (c .first-alike .ensures .1) in
     (walk, tally-begun all))
     (λ c κs. search needs)
-    (λ c κs. row-alike (c .before .before .loop .inv .0) (c .before .loop-test .taken) (c .spot-of .ensures))
-    (λ c κs. pair-room (c .before .before .before .loop .inv .0 .row) _ _ (c .before .before .before .loop .inv .1)
-    (c .tally-pair .ensures))
+    (λ c κs. search (row-alike, needs))
+    (λ c κs. search (pair-room, needs))
     (λ c κs. search needs)
     (λ c.
     let (_, _, later) = row-next (c .before .before .before .before .before .loop .inv .0)
@@ -47,4 +46,4 @@ tally-row-spec =
       tally-more (c .before .before .before .before .before .loop .inv .1) next (c .before .before .tally-pair .ensures)
           (c .before .with-more .ensures .0) (c .before .with-more .ensures .1),
     ))
-    (λ c. tally-done (c .before .loop .inv .1) (row-done (c .before .loop .inv .0) (c .loop-test .left))))
+    (λ c. search (tally-done, row-done, needs)))

@@ -25,14 +25,10 @@ tally-rows-spec =
     μ-loop
     (λ c κs. search needs)
     (λ c κs. search needs)
-    (λ c. (
-      rows-begun (c .before .before .before .before .before .before .pre) (c .before .at .ensures)
-          (c .wide .ensures),
-      tally-begun refl,
-    ))
-    (λ c. tally-many (c .before .before .before .loop .inv .1) (c .if1 .taken))
+    (λ c. search (rows-begun, tally-begun, needs))
+    (λ c. search (tally-many, needs))
     (λ c κs. search needs)
-    (λ c κs. row-here (c .before .before .before .before .loop .inv .0) (c .before .before .before .loop-test .taken) (c .spot-of .ensures))
+    (λ c κs. search (row-here, needs))
     (λ c κs. omega (
       arith,
       c .before .before .if1 .left,
@@ -41,13 +37,6 @@ tally-rows-spec =
           (c .before .spot-of .ensures)) (c .tally-row .ensures),
     ))
     (λ c. search needs)
-    (λ c. omega (arith, c .before .before .before .before .before .loop-test .taken))
-    (λ c.
-    let next = rows-next (c .before .before .before .before .before .before .loop .inv .0)
-    (c .before .before .before .before .before .loop-test .taken) (c .before .before .spot-of .ensures) in (
-      c .before .before .before .before .before .before .loop .inv .0,
-      tally-more
-          (c .before .before .before .before .before .before .loop .inv .1) next (c .before .tally-row .ensures) (c .with-more .ensures .0)
-          (c .with-more .ensures .1),
-    ))
-    (λ c. tally-all (c .before .loop .inv .1) (rows-done (c .before .loop .inv .0) (c .loop-test .left))))
+    (λ c. search needs)
+    (λ c. search (rows-next, tally-more, needs))
+    (λ c. search (tally-all, rows-done, needs)))
