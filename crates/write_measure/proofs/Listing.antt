@@ -18,7 +18,7 @@ use Rattle.model.proofs.SymbolLaws.{text≢tag, tag-said}
 use Rattle.model.proofs.Tests.{Told, yea, nay, told, same, eqb-no}
 use Rattle.model.proofs.TreeLaws.{length-nodesD}
 use Rattle.names.specs.Lines.{Indexed}
-use Rattle.write_nodes.specs.Nodes.{node-at, Tag, TagOf}
+use Rattle.write_nodes.specs.Nodes.{node-at, TagOf}
 use Rattle.write_nodes.proofs.FirstLaws.{First, a-text, an-element, first, some-size}
 use Rattle.write_texts.specs.TextWords.{good-by, good-node}
 use Rattle.write_measure.specs.Lengths.{own-bytes, measured}

@@ -1,5 +1,5 @@
 -- `write_form::put_children` meets its contract. The measure is the remaining depth; the loop's invariant is `Loop`.
-use Prim.Native.Nat.{ℕ, _+_, _-_, _≤_, _<_}
+use Prim.Native.Nat.{ℕ, _-_, _<_}
 use native.Mathlib.Omega.{arith}
 use borrow.Fn.Kinds.{In}
 use borrow.Fn.PlainCycle.{Measures, is, falls, and}

@@ -1,5 +1,4 @@
 -- `write_texts::good_words` meets its contract, by what the symbol says.
-use mathlib.Core.Path.{_∙_}
 use borrow.Author.Needs.{needs}
 use Rattle.symbols.proofs.MeaningLaws.{means}
 use Rattle.write_texts.specs.TextWords.{good-by, good-node}
