@@ -18,17 +18,8 @@ check-noting-spec =
     (λ c. search needs)
     (λ c. search needs)
     (λ c. search needs)
-    (λ c.
-    let w = c .before .before .before .before .before .before in
-    let part = w .before .before .before .within .ensures in
-    (ends-whole _ part (w .whole .ensures .0) (c .before .before .i2 .given .1) (c .if1 .taken), part-whole part (w .whole .ensures .1)))
+    (λ c. search (ends-whole, part-whole, needs))
     (λ c. search needs)
-    (λ c.
-    let w = c .before .before .before .before .before in
-    let part = w .before .before .before .within .ensures in
-    (ends-bad _ part (w .whole .ensures .0) (c .before .i .given .1), part-whole part (w .whole .ensures .1)))
+    (λ c. search (ends-bad, part-whole, needs))
     (λ c. search needs)
-    (λ c.
-    let w = c .before .before .before .before .before .before in
-    let part = w .before .before .before .within .ensures in
-    (ends-early _ part (w .whole .ensures .0) (c .before .before .i2 .given .1) (c .if1 .left), part-whole part (w .whole .ensures .1))))
+    (λ c. search (ends-early, part-whole, needs)))

@@ -13,6 +13,6 @@ put-place-spec =
     (λ c. search needs)
     (λ c. search needs)
     (λ c. search needs)
-    (λ c. place-put _ _ _ refl (c .before .if1 .taken))
-    (λ c. place-out _ _ _ refl (c .before .if1 .taken) (c .if2 .left))
+    (λ c. search (place-put, needs))
+    (λ c. search (place-out, needs))
     (λ c. place-none _ _ _ (c .if1 .left)))

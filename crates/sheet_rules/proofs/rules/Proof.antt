@@ -22,22 +22,12 @@ rules-spec =
     (λ c. noting-none)
     (λ c. search needs)
     (λ c. search needs)
-    (λ c. c .before .before .before .loop .inv .long)
-    (λ c. (
-      loop-stopped _ _ _ _ _ _ (c .before .before .before .loop .inv .walks) (c .enum-told .given .1),
-      noting-stopped (c .before .before .before .loop .inv) (c .enum-told .given .1),
-    ))
+    (λ c. search needs)
+    (λ c. search (loop-stopped, noting-stopped, needs))
     (λ c κs. search needs)
     (λ c κs. search needs)
     (λ c. omega arith)
     (λ c. omega arith)
-    (λ c.
-    let told = c .before .before .before .before .before in
-    let test = told .before .before .before in
-    noting-more (test .before .loop .inv) (test .loop-test .taken) (told .before .walk .given .1)
-    (c .before .before .before .put-place .ensures) (c .rule .ensures))
-    (λ c. c .before .loop .inv .long)
-    (λ c. (
-      loop-done _ _ _ _ _ _ (c .before .loop .inv .walks) (c .loop-test .left),
-      noting-all (c .before .loop .inv) (c .loop-test .left),
-    )))
+    (λ c. search (noting-more, needs))
+    (λ c. search needs)
+    (λ c. search (loop-done, noting-all, needs)))
