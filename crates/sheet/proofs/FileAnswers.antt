@@ -30,38 +30,38 @@ module _ (b room : List ℕ) {room′ : List ℕ} {n : ℕ} (en : n ≡ min 1638
   pub front-length : n ≡ length (take n room′)
   front-length = sym (ap length front ∙ whole-length b en)
 
--- r is the check's answer on the whole words
-module _ (b d : List ℕ) {n : ℕ} {r : Answer} (en : n ≡ min 16384 (length b / 4)) where
-  pub answers-refusal : said r ≡ sheet-said (take n (file-words b)) → {x : Refusal} → r ≡ Error x → Gives b d (said-refusal x) d
+-- r is the check's answer on them
+module _ (b d room : List ℕ) {room′ : List ℕ} {n : ℕ} {r : Answer} (en : n ≡ min 16384 (length b / 4))
+    (er : room′ ≡ take n (file-words b) ++ drop n room) (ec : said r ≡ sheet-said (take n room′)) where
+  pub answers-refusal : {x : Refusal} → r ≡ Error x → Gives b d (said-refusal x) d
   unfolding from-file-said from-file-sheet from-file _>>=_ answer-of buffer-after
-  answers-refusal e h =
-      let (i, s, x) = sheet-refused (take n (file-words b)) e h in
+  answers-refusal h =
+      let (i, s, x) = sheet-refused (take n (file-words b)) (ec ∙ ap sheet-said (front b room en er)) h in
       let f : sheet-of (file-words b) ≡ refuses 9 i = file-sheet b en ∙ rw s in
       rw x (rw f, rw f)
 
-  module _ {m : ℕ} (h : r ≡ Count m) (e : said r ≡ sheet-said (take n (file-words b))) where
+  module _ {m : ℕ} (h : r ≡ Count m) where
     counted : (t : Sheet) × (sheet-of (file-words b) ≡ cond (eqb (n * 4) (length b)) (passes t) (refuses 9 n))
     unfolding _>>=_
-    counted = let (_, (t, s)) = sheet-counted (take n (file-words b)) e h in (t, file-sheet b en ∙ rw s)
+    counted = let (_, (t, s)) = sheet-counted (take n (file-words b)) (ec ∙ ap sheet-said (front b room en er)) h in (t, file-sheet b en ∙ rw s)
 
     pub answers-over : (n * 4 ≡ length b → ⊥) → Gives b d (refusal 9 n) d
     unfolding from-file-said from-file-sheet from-file _>>=_ answer-of buffer-after
     answers-over over = let f = tests.ne-eqb (n * 4) (length b) over in (rw (counted .1, f), rw (counted .1, f))
 
     module _ (all : n * 4 ≡ length b) where
+      passed : (t : Sheet) × (sheet-of (file-words b) ≡ passes t)
+      passed = (counted .0, counted .1 ∙ rw (tests.eq-eqb (n * 4) (length b) all))
+
       size : length (file-words b) ≡ n
       size = ap length (sym (file-whole b en all)) ∙ whole-length b en
 
       pub answers-short : length d < n → Gives b d (refusal 22 n) d
       unfolding from-file-said from-file-sheet from-file _>>=_ _>>_ require room-for answer-of buffer-after
-      answers-short l =
-          let f = tests.eq-eqb (n * 4) (length b) all in
-          let g = tests.lt-leb n (length d) l in
-          (rw (counted .1, f, size, g), rw (counted .1, f, size, g))
+      answers-short l = let f = tests.lt-leb n (length d) l in (rw (passed .1, size, f), rw (passed .1, size, f))
 
-      pub answers-count : n ≤ length d → Gives b d (count n) (take n (file-words b) ++ drop n d)
+      pub answers-count : n ≤ length d → {left : List ℕ} → left ≡ take n (file-words b) ++ drop n d → Gives b d (count n) left
       unfolding from-file-said from-file-sheet from-file _>>=_ _>>_ require room-for answer-of buffer-after
-      answers-count l =
-          let f = tests.eq-eqb (n * 4) (length b) all in
-          let g = tests.le-leb n (length d) l in
-          (rw (counted .1, f, size, g, size), rw (counted .1, f, size, g, size, file-whole b en all))
+      answers-count l e =
+          let f = tests.le-leb n (length d) l in
+          (rw (passed .1, size, f, size), e ∙ rw (passed .1, size, f, size, file-whole b en all))
