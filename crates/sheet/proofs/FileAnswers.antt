@@ -43,7 +43,9 @@ module _ (b d room : List ℕ) {room′ : List ℕ} {n : ℕ} {r : Answer} (en :
   module _ {m : ℕ} (h : r ≡ Count m) where
     counted : (t : Sheet) × (sheet-of (file-words b) ≡ cond (eqb (n * 4) (length b)) (passes t) (refuses 9 n))
     unfolding _>>=_
-    counted = let (_, (t, s)) = sheet-counted (take n (file-words b)) (ec ∙ ap sheet-said (front b room en er)) h in (t, file-sheet b en ∙ rw s)
+    counted =
+        let (_, (t, s)) = sheet-counted (take n (file-words b)) (ec ∙ ap sheet-said (front b room en er)) h in
+        (t, file-sheet b en ∙ rw s)
 
     pub answers-over : (n * 4 ≡ length b → ⊥) → Gives b d (refusal 9 n) d
     unfolding from-file-said from-file-sheet from-file _>>=_ answer-of buffer-after

@@ -9,7 +9,7 @@ use lib.Dec.{eqb, leb}
 use lib.ListN.{length, take, drop, take-append-drop}
 use lib.Seq.{take-all, length-take-le}
 use borrow.Author.Tests as tests
-use Rattle.model.specs.Answers.{passes, refuses, _>>=_}
+use Rattle.model.specs.Answers.{Checked, passes, refuses, _>>=_}
 use Rattle.model.specs.Sheet.{Sheet, Got, got, W, sheet, ended, sheet-of, file-words}
 use Rattle.model.proofs.Tests.{Told, yea, nay, told, eqb-like}
 use Rattle.sheet_file.proofs.FileWords.{file-length}
@@ -59,18 +59,22 @@ module _ (b : List ℕ) {n : ℕ} (en : n ≡ min 16384 (length b / 4)) where
           (rw (take-append-drop n (file-words b)) at (by (drop n (file-words b)) (rw i (rest b))))
 
   -- a file is a sheet if its whole words are and no byte is left; else the place after them is bad
-  pub file-sheet : sheet-of (file-words b) ≡ (sheet-of whole >>= λ t. cond (eqb (n * 4) (length b)) (passes t) (refuses 9 n))
+  abbrev no-more : Sheet → Checked Sheet
+  no-more t = cond (eqb (n * 4) (length b)) (passes t) (refuses 9 n)
+
+  pub file-sheet : sheet-of (file-words b) ≡ (sheet-of whole >>= λ t. no-more t)
   unfolding sheet-of ended _>>=_
   file-sheet = rw (take-all 16384 whole (omega (arith, whole-length)), whole-length) (go reading)
     where
-      go : {g e : Got Sheet} → Alike n g e → ended (length (file-words b)) g ≡ (ended n e >>= λ t. cond (eqb (n * 4) (length b)) (passes t) (refuses 9 n))
+      go : {g e : Got Sheet} → Alike n g e → ended (length (file-words b)) g ≡ (ended n e >>= λ t. no-more t)
       go (both-bad l) = refl
       go (both-got t {n = a} l) = by (told (eqb a n))
         where
-          by : Told (eqb a n) → ended (length (file-words b)) (got t a) ≡ (ended n (got t a) >>= λ t. cond (eqb (n * 4) (length b)) (passes t) (refuses 9 n))
+          by : Told (eqb a n) → ended (length (file-words b)) (got t a) ≡ (ended n (got t a) >>= λ t. no-more t)
           by (yea y) =
               let i : a ≡ n = tests.eqb-true a n y in
-              rw (y, i, eqb-like n (length (file-words b)) (n * 4) (length b) (λ e. omega (arith, file-length b)) (λ e. omega (arith, file-length b)))
+              let f = file-length b in
+              rw (y, i, eqb-like n (length (file-words b)) (n * 4) (length b) (λ e. omega arith) (λ e. omega arith))
           by (nay y) = rw (y, tests.ne-eqb a (length (file-words b)) (omega (arith, tests.eqb-false a n y, file-length b)))
 
   -- where no byte is left, they are the file's words

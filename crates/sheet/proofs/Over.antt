@@ -60,7 +60,10 @@ module _ (ok : ℕ → Bool) (fails : ok W ≡ false) (s : List ℕ) (i : ℕ) (
           rw (t, e, getD-append-seam s W [] 0, fails, and-false (ltb (length s) (length (over s))))
 
   tested : Yes (ltb i (length s) && ok (getD s i 0)) → (i < length s) × Yes (ok (getD s i 0))
-  tested y = (tests.ltb-true i (length s) (and-left (ltb i (length s)) (ok (getD s i 0)) y), and-right (ltb i (length s)) (ok (getD s i 0)) y)
+  tested y =
+      let there = ltb i (length s) in
+      let good = ok (getD s i 0) in
+      (tests.ltb-true i (length s) (and-left there good y), and-right there good y)
 
 -- what a word's test tells is known of what follows
 closed-word : {B : Type 0} {ok : ℕ → Bool} {f : ℕ → Reader B} → ok W ≡ false → ((x : ℕ) → Yes (ok x) → Closed (f x))

@@ -49,7 +49,8 @@ unfolding first-with
 heads-next R j l few =
     let long = length-set (heads R (suc j)) (key (nth R j)) j ∙ length-heads R (suc j) in
     ext-getD 0 (set (heads R (suc j)) (key (nth R j)) j) (heads R j) (long ∙ sym (length-heads R j))
-    (λ k m. sym (head-nth R j k (omega (arith, long)) ∙ rw (drop-cons R j (one 0 0) l) (go k (omega (arith, long)) (told (eqb (key (nth R j)) k)))))
+    (λ k m. let i : k < 67 = omega (arith, long) in
+    sym (head-nth R j k i ∙ rw (drop-cons R j (one 0 0) l) (go k i (told (eqb (key (nth R j)) k)))))
   where
     go : (k : ℕ) → k < 67 → Told (eqb (key (nth R j)) k)
         → first-with k j (nth R j ∷ drop (suc j) R) ≡ getD (set (heads R (suc j)) (key (nth R j)) j) k 0
@@ -115,7 +116,8 @@ module _ {s : List ℕ} (ok : Passes s) where
 
     head : (k : ℕ) → k < 67 → getD index k 0 ≡ first-with k i (drop i (rules-in s))
     head k l =
-        rw (h .words) (List·getD-append (heads (rules-in s) i) _ 0 k (omega (arith, length-heads (rules-in s) i)) ∙ head-nth (rules-in s) i k l)
+        rw (h .words) (List·getD-append (heads (rules-in s) i) _ 0 k (omega (arith, length-heads (rules-in s) i))
+        ∙ head-nth (rules-in s) i k l)
 
     pub entry-fits : {at : ℕ} → at ≡ begin (sheet-in s .states) 6 (rules-in s) j → EntryFits index j at
     entry-fits e = record {
@@ -141,7 +143,8 @@ module _ {s : List ℕ} (ok : Passes s) where
         = rw next at (h .words) ∙ ap (λ (l : List ℕ). heads R (suc j) ++ l)
         (ap (λ (l : List ℕ). l ++ later) (take-suc (drop 67 old) j 0 inside) ∙ append-snoc t x later) in
         let here : w ∷ entries-in s (suc j) ≡ entries-in s j
-        = rw (drop-cons R j (one 0 0) number) (ap (λ (n : ℕ). w ∷ entries (sheet-in s .states) n (suc j) (drop (suc j) R)) (rule-next ok j number)) in
+        = rw (drop-cons R j (one 0 0) number)
+        (ap (λ (n : ℕ). w ∷ entries (sheet-in s .states) n (suc j) (drop (suc j) R)) (rule-next ok j number)) in
         record {
           long = simp length-set (h .long);
           few = omega (arith, number);

@@ -21,7 +21,8 @@ file-length (a ∷ b ∷ c ∷ d ∷ r) = let h = file-length r in omega arith
 
 -- word i is made of the four bytes from 4 × i on
 four-bytes : (b : List ℕ) (i : ℕ) → i * 4 + 4 ≤ length b
-    → getD b (i * 4) 0 + 2 ^ 8 * getD b (i * 4 + 1) 0 + 2 ^ 16 * getD b (i * 4 + 2) 0 + 2 ^ 24 * getD b (i * 4 + 3) 0 ≡ getD (file-words b) i 0
+    → getD b (i * 4) 0 + 2 ^ 8 * getD b (i * 4 + 1) 0 + 2 ^ 16 * getD b (i * 4 + 2) 0 + 2 ^ 24 * getD b (i * 4 + 3) 0
+    ≡ getD (file-words b) i 0
 unfolding file-words
 four-bytes [] i h = absurd (omega arith)
 four-bytes (a ∷ []) i h = absurd (omega arith)

@@ -33,8 +33,8 @@ from-file-spec =
     (c .if1 .taken))
     (λ c.
     let k = c .before .before .before .before in
-    answers-short _ _ _ (words k .within .ensures) (front k .put-words .ensures) (k .check .ensures) (c .before .before .enum-told .given .1)
-    (c .before .if1 .left) (c .if2 .taken))
+    answers-short _ _ _ (words k .within .ensures) (front k .put-words .ensures) (k .check .ensures)
+    (c .before .before .enum-told .given .1) (c .before .if1 .left) (c .if2 .taken))
     (λ c κs. search needs)
     (λ c.
     let k = c .before .before .before in
@@ -43,5 +43,5 @@ from-file-spec =
     (λ c.
     let l = c .before .before .before .before in
     let k = l .before .before .before .before in
-    answers-count _ _ _ (words k .within .ensures) (front k .put-words .ensures) (k .check .ensures) (l .before .before .enum-told .given .1)
-    (l .before .if1 .left) (l .if2 .left) (c .before .before .put-words2 .ensures)))
+    answers-count _ _ _ (words k .within .ensures) (front k .put-words .ensures) (k .check .ensures)
+    (l .before .before .enum-told .given .1) (l .before .if1 .left) (l .if2 .left) (c .before .before .put-words2 .ensures)))
