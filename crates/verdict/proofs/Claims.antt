@@ -4,7 +4,6 @@ use mathlib.Core.Path.{_≡_, sym, ap, _∙_}
 use mathlib.Core.Logic.{_↔_}
 use mathlib.Core.List.{List, _++_}
 use Prim.Native.Nat.{ℕ}
-use native.Mathlib.Omega.{arith}
 use lib.ListN.{length, take, drop}
 use lib.Seq.{take-at, drop-at}
 use denote.Ref.{now}
@@ -14,11 +13,11 @@ use Rattle.model.specs.Sheet.{Sheet}
 use Rattle.model.specs.Relation.{Accepts}
 use Rattle.model.specs.Calls.{formcheck}
 use Rattle.model.specs.Line.{line-of, formcheck-line}
-use Rattle.model.proofs.Cut.{formcheck-cut}
 use Rattle.model.proofs.Formcheck as model
 use Rattle.model.proofs.Formcheck.{Presents}
 use Rattle.model.proofs.LineLaws.{line-tells}
-use Rattle.verdict.specs.Sizes.{names-bytes, sheet-bytes, form-bytes}
+use Rattle.verdict_sizes.specs.Sizes.{names-bytes, sheet-bytes, form-bytes}
+use Rattle.verdict_sizes.proofs.Whole.{whole}
 use Rattle.verdict.proofs.line.Reads as reads
 
 -- What `line` promises of its answer r and of what it leaves of the lent array: two of its `ensures`, on the bytes that it is lent.
@@ -32,14 +31,7 @@ pub promised : (κs : _) (a : _) (r : ℕ) (x : _) → reads.Post κs a r x
     → Promised (now (a .0)) (now (a .1 .0)) (now (a .1 .1 .0)) (now (a .1 .1 .1 .0)) r (now (x .1 .1 .1 .0))
 promised κs a r x (count, (buffer, within)) = record { count = count; buffer = buffer }
 
--- The fronts that are read have the line of the whole files, however long these are.
-pub whole : (list file s : List ℕ) → formcheck-line (take names-bytes list) (take sheet-bytes file)
-    (take form-bytes s) ≡ formcheck-line list file s
-unfolding formcheck-line
-whole list file s = ap line-of (formcheck-cut list file s {n = names-bytes} {q = 16385} {k = form-bytes} (omega arith) (omega arith)
-    (omega arith))
-
--- So `line`, lent these fronts, leaves the line of the files in its first r bytes, and what stood behind them.
+-- `line`, lent the fronts that are read, leaves the line of the files in its first r bytes, and what stood behind them.
 module _ (list file s : List ℕ) {out left : List ℕ} {r : ℕ}
     (promise : Promised (take names-bytes list) (take sheet-bytes file) (take form-bytes s) out r left) where
   pub line-left : take r left ≡ formcheck-line list file s

@@ -2,7 +2,7 @@
 ghost use mathlib.Core.Path.{_≡_};
 ghost use mathlib.Core.List.{List, _++_};
 ghost use Prim.Native.Nat.{ℕ};
-ghost use lib.ListN.{length, drop, replicate};
+ghost use lib.ListN.{length, drop};
 ghost use Rattle.io.specs.Counts.{Counts};
 ghost use Rattle.model.specs.Answers.{said-judgement, passes};
 ghost use Rattle.model.specs.Sheet.{file-words};
@@ -10,7 +10,6 @@ ghost use Rattle.model.specs.Names.{names-of};
 ghost use Rattle.model.specs.Calls.{formcheck};
 ghost use Rattle.model.specs.Line.{formcheck-line};
 ghost use Rattle.model.specs.Index.{Passes};
-ghost use Rattle.verdict.specs.Sizes.{names-bytes, sheet-bytes, form-bytes};
 use layout::MOST_NODES;
 use layout::MOST_WORDS;
 use layout::NODE_WORDS;
@@ -19,14 +18,9 @@ use layout::wide;
 use model::Answer;
 use model::Judgement;
 use model::Refusal;
-
-// The bytes that are read of each file. They decide the line, however long the file is (`whole` in proofs/Claims.antt): a name list
-// that passes has at most 1,600 bytes, a sheet 65,536 and a form 65,535.
-const NAMES_BYTES: usize = 4096;
-
-const SHEET_BYTES: usize = 65540;
-
-const FORM_BYTES: usize = 65536;
+pub use verdict_sizes::form_array;
+pub use verdict_sizes::names_array;
+pub use verdict_sizes::sheet_array;
 
 // A line has at most so many bytes.
 pub const LINE_BYTES: usize = line::MOST_BYTES;
@@ -78,24 +72,4 @@ pub fn line(list: &[u8], file: &[u8], text: &[u8], out: &mut [u8; LINE_BYTES]) -
     ensures within { λ r. ⌜ Counts r (now (out .exit)) ⌝ }
 {
     line::of_judgement(check(list, file, text), out)
-}
-
-// ---- arrays to read the files into, each as long as what decides the line
-
-pub fn names_array() -> [u8; NAMES_BYTES]
-    ensures { λ r. ⌜ r ≡ replicate names-bytes 0 ⌝ }
-{
-    [0; NAMES_BYTES]
-}
-
-pub fn sheet_array() -> [u8; SHEET_BYTES]
-    ensures { λ r. ⌜ r ≡ replicate sheet-bytes 0 ⌝ }
-{
-    [0; SHEET_BYTES]
-}
-
-pub fn form_array() -> [u8; FORM_BYTES]
-    ensures { λ r. ⌜ r ≡ replicate form-bytes 0 ⌝ }
-{
-    [0; FORM_BYTES]
 }
