@@ -1,5 +1,2 @@
-mod OccursLaws
-mod SignedLaws
 mod SumLaws
 mod StepLaws
-mod CountLaws

@@ -1,21 +1,25 @@
--- Steps of a count part, by kind: where their words stand, where they end, and what they say.
-use mathlib.Core.Path.{_≡_, refl, ap, ap₂, _∙_, subst}
+-- Steps of a count part: by kind, where their words stand, where they end, and what they say; and one after another, with their truths.
+use mathlib.Core.Path.{_≡_, refl, ap, ap₂, _∙_, subst, sym}
 use mathlib.Core.Logic.{_≢_}
-use mathlib.Core.Bool.{Bool, false, not, _&&_, _||_}
-use mathlib.Core.List.{List, [], _∷_, _++_}
-use Prim.Native.Nat.{ℕ, zero, suc, _+_, _≤_, _<_}
+use mathlib.Core.Bool.{Bool, false, not, _&&_, _||_, true, and-false, or-false}
+use mathlib.Core.List.{List, [], _∷_, _++_, flatMap}
+use Prim.Native.Nat.{ℕ, zero, suc, _+_, _≤_, _<_, _-_}
 use native.Mathlib.Omega.{arith}
-use lib.Dec.{eqb}
+use native.Mathlib.Numerals.{add-one}
+use lib.Dec.{eqb, lit<, eqb·zero-suc, eqb·suc-zero, eqb·suc-suc}
 use lib.IntN.{ℤ}
 use lib.Signed.{leZ}
-use lib.ListN.{length, getD}
+use lib.ListN.{length, getD, length-append}
 use borrow.Author.Tests.{ne-eqb}
 use Rattle.model.specs.Sheet.{Coefficient, Step, at-most, remainder, not-step, and-step, or-step, sum-words, signed-word, step-words}
-use Rattle.model.specs.Sheet.{SumInRange, StepInRange, signed, bit}
-use Rattle.model.specs.Words.{total, remainder-of, holds}
+use Rattle.model.specs.Sheet.{SumInRange, StepInRange, signed, bit, mask, count-words, StepsInRange}
+use Rattle.model.specs.Words.{total, remainder-of, holds, truths, fits-count}
 use Rattle.model.specs.Spans.{WordsAt}
-use Rattle.model.proofs.Spans.{span-left, span-right, word-there, word-here, word-next}
-use Rattle.judge_count.specs.Count.{Occurs, Counts, SumFrom, Summed, AtMost, Leaves, StepFrom, Truths}
+use Rattle.model.specs.Lists.{has}
+use Rattle.model.proofs.Spans.{span-left, span-right, word-there, word-here, word-next, whole}
+use Rattle.model.proofs.SetWords.{mask-<}
+use Rattle.bits.proofs.SetLaws.{none-stands, bit-with}
+use Rattle.judge_count.specs.Count.{Occurs, Counts, SumFrom, Summed, AtMost, Leaves, StepFrom, Truths, CountPart, CountSays, StepSays}
 use Rattle.judge_count.proofs.SumLaws.{signed-back}
 
 -- ---- what stands at a step
@@ -117,31 +121,22 @@ module _ {part : List ℕ} {at : ℕ} where
   says p i next (or-step j l) few h k = rw (word-here k) (pair-there _||_ (or-step j l) (λ w earlier. refl) k)
 
   -- every step begins with its kind
-  pub kind-there : StepFrom part at → at < length part
+  pub kind-there : StepFrom part at → (at < length part) × (1 ≤ getD part at 0) × (getD part at 0 ≤ 5)
   unfolding step-words
   kind-there h = go (h .states) (h .step) (h .stands)
     where
-      go : {next : ℕ} (p : ℕ) (s : Step) → WordsAt part at next (step-words p s) → at < length part
-      go p (at-most cs b) k = word-there k
-      go p (remainder cs m r) k = word-there k
-      go p (not-step i) k = word-there k
-      go p (and-step i j) k = word-there k
-      go p (or-step i j) k = word-there k
+      go : {next : ℕ} (p : ℕ) (s : Step) → WordsAt part at next (step-words p s) → (at < length part) × (1 ≤ getD part at 0) ×
+          (getD part at 0 ≤ 5)
+      go p (at-most cs b) k = (word-there k, omega (arith, word-here k), omega (arith, word-here k))
+      go p (remainder cs m r) k = (word-there k, omega (arith, word-here k), omega (arith, word-here k))
+      go p (not-step i) k = (word-there k, omega (arith, word-here k), omega (arith, word-here k))
+      go p (and-step i j) k = (word-there k, omega (arith, word-here k), omega (arith, word-here k))
+      go p (or-step i j) k = (word-there k, omega (arith, word-here k), omega (arith, word-here k))
 
   -- what a step says, by its kind k
   pub said : (k : ℕ) → getD part at 0 ≡ k → (h : StepFrom part at) → Said k part at (h .next) (h .step)
   said k e h = subst (λ (x : ℕ). Said x part at (h .next) (h .step)) e
       (says (h .states) (h .number) (h .next) (h .step) (h .few-states) (h .in-range) (h .stands))
-
--- no step is of another kind
-pub no-kind : (part : List ℕ) (at next : ℕ) (s : Step) (k : ℕ) → Said k part at next s → k ≢ 1 → k ≢ 2 → k ≢ 3 → k ≢ 4 → k ≢ 5 → ⊥
-no-kind part at next s zero t a b c d e = t
-no-kind part at next s (suc zero) t a b c d e = a refl
-no-kind part at next s (suc (suc zero)) t a b c d e = b refl
-no-kind part at next s (suc (suc (suc zero))) t a b c d e = c refl
-no-kind part at next s (suc (suc (suc (suc zero)))) t a b c d e = d refl
-no-kind part at next s (suc (suc (suc (suc (suc zero))))) t a b c d e = e refl
-no-kind part at next s (suc (suc (suc (suc (suc (suc k)))))) t a b c d e = t
 
 -- ---- what the code finds
 
@@ -170,3 +165,138 @@ module _ {part : List ℕ} {at truths next : ℕ} {s : Step} {earlier : List Boo
   pub pair-found : (op : Bool → Bool → Bool) {a b : Bool} → a ≡ bit truths (getD part (at + 1) 0) → b ≡ bit truths (getD part (at + 2) 0)
       → PairAt op part at next s → (at + 3 ≡ next) × (op a b ≡ holds w earlier s)
   pair-found op ea eb p = (omega (arith, p .ends), ap₂ op (ea ∙ t .same _) (eb ∙ t .same _) ∙ p .says w earlier)
+
+-- ---- truths
+
+no-truth : Truths 0 []
+unfolding has
+no-truth = record { fits = lit< tt; same = none-stands .same }
+
+getD-last : (l : List Bool) (b : Bool) (j : ℕ) → getD (l ++ (b ∷ [])) j false ≡ (getD l j false || (b && eqb j (length l)))
+getD-last [] true zero = refl
+getD-last [] false zero = refl
+getD-last [] b (suc j) = sym (ap (λ t. b && t) (eqb·suc-zero j) ∙ and-false b)
+getD-last (x ∷ l) b zero = sym (ap (λ t. x || (b && t)) (eqb·zero-suc (length l)) ∙ ap (λ t. x || t) (and-false b) ∙ or-false x)
+getD-last (x ∷ l) b (suc j) = getD-last l b j ∙ ap (λ t. getD l j false || (b && t)) (sym (eqb·suc-suc j (length l)))
+
+one-truth : {set i r : ℕ} {earlier : List Bool} (b : Bool) → Truths set earlier → length earlier ≡ i → i < 64 → r ≡ mask 64
+    (λ j. bit set j || (b && eqb j i)) → Truths r (earlier ++ (b ∷ []))
+one-truth {set} {i} {earlier = earlier} b t n h e = rw e (record {
+  fits = mask-< 64 _;
+  same = λ j.
+      bit-with b set i j (t .fits) h ∙ ap₂ (λ (x : Bool) (m : ℕ). x || (b && eqb j m)) (t .same j) (sym n) ∙ sym (getD-last earlier b j);
+})
+
+-- ---- what is left of a part
+
+-- the steps `rest` from word `at` on, with the truths of the earlier ones, come to what all steps come to
+pub record Rest (part : List ℕ) (h : CountPart part) (w : List ℕ) (set at i : ℕ) (rest : List Step) : Type 0 where
+  pub earlier : List Bool
+  pub here : WordsAt part at (length part) (flatMap (step-words (h .states)) rest)
+  pub in-range : StepsInRange (h .states) i rest
+  pub known : Truths set earlier
+  pub number : length earlier ≡ i
+  pub ahead : i + length rest ≡ length (h .steps)
+  pub whole : truths w earlier rest ≡ truths w [] (h .steps)
+
+pub record StepsLeft (part counts : List ℕ) (steps set at i : ℕ) : Type 0 where
+  pub counted : steps ≡ getD part 0 0
+  pub within : i ≤ steps
+  pub left : (h : CountPart part) (w : List ℕ) → Occurs counts w → (rest : List Step) × Rest part h w set at i rest
+
+-- the step in hand, and what its truth makes of the rest
+record Turn (part : List ℕ) (h : CountPart part) (w : List ℕ) (set at i : ℕ) (earlier : List Bool) : Type 0 where
+  step : StepFrom part at
+  others : List Step
+  more : (r : ℕ) (b : Bool) → r ≡ mask 64 (λ j. bit set j || (b && eqb j i)) → b ≡ holds w earlier (step .step)
+      → Rest part h w r (step .next) (i + 1) others
+
+module _ {part : List ℕ} (h : CountPart part) where
+  pub steps-there : 0 < length part
+  unfolding count-words
+  steps-there = omega (arith, ap length (h .coded))
+
+  pub steps-are : getD part 0 0 ≡ length (h .steps)
+  unfolding count-words
+  steps-are = ap (λ (l : List ℕ). getD l 0 0) (h .coded)
+
+  pub steps-few : (1 ≤ getD part 0 0) × (getD part 0 0 ≤ 32)
+  steps-few = rw steps-are (h .in-range .some-steps, h .in-range .few-steps)
+
+  first-step : (w : List ℕ) → Rest part h w 0 1 0 (h .steps)
+  unfolding count-words
+  first-step w = record {
+    earlier = [];
+    here = subst (λ (l : List ℕ). WordsAt l 1 (length l) (flatMap (step-words (h .states)) (h .steps))) (sym (h .coded))
+        (word-next (whole (count-words (h .states) (h .steps))));
+    in-range = h .in-range .steps;
+    known = no-truth;
+    number = refl;
+    ahead = omega arith;
+    whole = refl;
+  }
+
+  module _ {w : List ℕ} {set at i : ℕ} where
+    turn : (rest : List Step) (t : Rest part h w set at i rest) → i < length (h .steps) → Turn part h w set at i (t .earlier)
+    unfolding flatMap truths
+    turn [] t l = absurd (omega (arith, t .ahead))
+    turn (s ∷ ss) t l =
+        let u = step-words (h .states) s in
+        let v = flatMap (step-words (h .states)) ss in
+        record {
+          step = record {
+            states = h .states;
+            number = i;
+            step = s;
+            next = at + length u;
+            few-states = h .few-states;
+            in-range = t .in-range .0;
+            stands = span-left u v (t .here);
+          };
+          others = ss;
+          more = λ r b er eb. record {
+            earlier = t .earlier ++ (b ∷ []);
+            here = span-right u v (t .here);
+            in-range = rw (add-one i) (t .in-range .1);
+            known = one-truth b (t .known) (t .number) (omega (arith, h .in-range .few-steps)) er;
+            number = omega (arith, length-append (t .earlier) (b ∷ []), t .number);
+            ahead = omega (arith, t .ahead);
+            whole = rw eb (t .whole);
+          };
+        }
+
+    last-truths : (rest : List Step) (t : Rest part h w set at i rest) → length (h .steps) ≤ i → t .earlier ≡ truths w [] (h .steps)
+    unfolding truths
+    last-truths [] t l = t .whole
+    last-truths (s ∷ ss) t l = absurd (omega (arith, t .ahead))
+
+-- ---- what the loop keeps
+
+pub no-step : {part counts : List ℕ} {steps : ℕ} → steps ≡ getD part 0 0 → StepsLeft part counts steps 0 1 0
+no-step e = record { counted = e; within = omega arith; left = λ h w o. (h .steps, first-step h w) }
+
+module _ {part counts : List ℕ} {steps set at i : ℕ} (left : StepsLeft part counts steps set at i) where
+  pub step-here : i < steps → CountPart part → Counts counts → StepFrom part at
+  step-here l h (w, o) = let (rest, t) = left .left h w o in turn h rest t (omega (arith, left .counted, steps-are h)) .step
+
+  pub one-step : {next r : ℕ} (b : Bool) → i < steps
+      → StepSays part at counts set next b
+      → r ≡ mask 64 (λ j. bit set j || (b && eqb j i)) → StepsLeft part counts steps r next (i + 1)
+  one-step {r = r} b l judged er = record {
+    counted = left .counted;
+    within = omega arith;
+    left = λ h w o.
+        let (rest, t) = left .left h w o in
+        let n = turn h rest t (omega (arith, left .counted, steps-are h)) in
+        let (en, eb) = judged (t .earlier) (t .known) (n .step) w o in
+        (n .others, rw en (n .more r b er eb));
+  }
+
+  pub all-steps : steps ≤ i → {b : Bool} → b ≡ bit set (steps - 1) → CountSays part counts b
+  unfolding fits-count
+  all-steps l eb = record {
+    fitting = λ h w o.
+        let (rest, t) = left .left h w o in
+        let e : steps ≡ length (h .steps) = left .counted ∙ steps-are h in
+        eb ∙ t .known .same (steps - 1) ∙ ap₂ (λ (l : List Bool) (n : ℕ). getD l (n - 1) false) (last-truths h rest t (omega arith)) e;
+  }

@@ -1,25 +1,191 @@
--- Sums of coefficient × occurrences: what is left of one, and its next term.
-use mathlib.Core.Path.{_≡_, refl, sym, ap, _∙_, subst}
+-- Occurrences of states, counted word by word; and sums of coefficient × occurrences: what is left of one, and its next term.
+use mathlib.Core.Path.{_≡_, refl, sym, ap, _∙_, ap₂, subst}
+use mathlib.Core.Bool.{Bool, true, false, cond}
+use mathlib.Core.List.{List, [], _∷_, List·Memᴰ·head, List·Memᴰ·tail, map}
 use mathlib.Core.Logic.{_≢_}
-use mathlib.Core.List.{List, [], _∷_, map, List·Memᴰ·head, List·Memᴰ·tail}
-use Prim.Native.Nat.{ℕ, _+_, _-_, _*_, _^_, _≤_, _<_}
-use native.Mathlib.Nat.{mul-le-mul-right}
+use Prim.Native.Nat.{ℕ, zero, suc, _+_, _-_, _≤_, _<_, _*_, _^_}
+use native.Mathlib.Numerals.{add-one}
 use native.Mathlib.Omega.{arith}
-use lib.IntN.{ℤ, pos, negsuc, natAbs, _+ℤ_, _*ℤ_, +ℤ-assoc, +ℤ-idl, +ℤ-idr}
-use lib.ListN.{length, getD, drop, length-drop}
+use native.Mathlib.Nat.{le-refl, lt-of-le-of-lt, mul-le-mul-right}
+use lib.Dec.{eqb, ltb}
+use lib.ListN.{length, getD, drop, set, replicate, length-set, length-map, drop-of-length-le, length-drop}
+use lib.Seq.{drop-cons, getD-set-same, getD-set-other}
+use lib.IntN.{ℤ, pos, negsuc, negℤ, natAbs, subℕ, _+ℤ_, _*ℤ_, +ℤ-assoc, +ℤ-idl, +ℤ-idr}
+use lib.Signed.{mag}
 use borrow.Author.Tests.{lt-ltb, le-ltb, ltb-true}
-use Rattle.model.specs.Lists.{_∈_}
-use Rattle.model.specs.Sheet.{Coefficient, W, set-words, signed-word, marks, sum-words, small, signed-32, members, signed}
+use mir.Syntax.{w32}
+use mir.Val.{SFits, toZ, ofZ}
+use mir.Facts.{toZ-ofZ, toZ-pos}
+use Rattle.model.specs.Lists.{_∈_, Ascending}
 use Rattle.model.specs.Words.{occurrences, total}
-use Rattle.model.proofs.Tests.{Yes, between-inv}
+use Rattle.model.specs.Sheet.{Coefficient, W, set-words, signed-word, marks, sum-words, small, signed-32, members, signed}
 use Rattle.model.specs.Spans.{WordsAt}
+use Rattle.model.proofs.Tests.{Told, yea, nay, told, same, eqb-yes, eqb-no, eqb-false, eqb-like, Yes, between-inv}
 use Rattle.model.proofs.Spans.{word-there, word-here, word-next}
 use Rattle.model.proofs.SetWords.{members-set}
 use Rattle.bits.specs.Stands.{Stands}
 use Rattle.bits.proofs.SetLaws.{stands-none, stands-some, members-stand, stands-members, words-stand}
+use Rattle.judge_order.specs.Order.{StateWords, states-of}
 use Rattle.judge_count.specs.Count.{Occurs, Counts, SumFrom, Summed}
-use Rattle.judge_count.proofs.SignedLaws.{abs-times, abs-plus}
-use Rattle.judge_count.proofs.OccursLaws.{among, among-≤}
+
+-- ---- counting occurrences
+
+-- the counts, and the occurrences from word i on, make all occurrences
+pub record CountsLeft (words counts : List ℕ) (i : ℕ) : Type 0 where
+  pub within : i ≤ length words
+  pub long : length counts ≡ 64
+  pub makes : (q : ℕ) → getD counts q 0 + occurrences q (states-of (drop i words)) ≡ occurrences q (states-of words)
+
+occurrences-≤ : (q : ℕ) (w : List ℕ) → occurrences q w ≤ length w
+unfolding occurrences
+occurrences-≤ q [] = omega arith
+occurrences-≤ q (x ∷ w) = go (eqb q x) (occurrences-≤ q w)
+  where
+    go : (b : Bool) → occurrences q w ≤ length w → cond b 1 0 + occurrences q w ≤ suc (length w)
+    go true h = omega arith
+    go false h = omega arith
+
+length-states : (words : List ℕ) → length (states-of words) ≡ length words
+unfolding states-of
+length-states words = length-map words (λ x. x - 1)
+
+pub no-count : {words : List ℕ} → CountsLeft words (replicate 64 0) 0
+no-count {words} = record {
+  within = omega arith;
+  long = refl;
+  makes = λ q. ap (λ (n : ℕ). n + occurrences q (states-of words))
+      (none q 64) ∙ omega arith;
+}
+  where
+    none : (q n : ℕ) → getD {A = ℕ} (replicate n 0) q 0 ≡ 0
+    none q zero = refl
+    none zero (suc n) = refl
+    none (suc q) (suc n) = none q n
+
+module _ {words counts : List ℕ} {i : ℕ} (left : CountsLeft words counts i) where
+  -- the next state is counted
+  module _ (h : i < length words) where
+    abbrev here : ℕ
+    here = getD words i 0 - 1
+
+    -- what is left, with this state in front
+    ahead : (x : ℕ) → getD counts x 0 + (cond (eqb x here) 1 0 + occurrences x (states-of (drop (i + 1) words))) ≡ occurrences x
+        (states-of words)
+    unfolding states-of occurrences
+    ahead x = rw add-one (rw (drop-cons words i 0 h) at (left .makes x))
+
+    pub count-small : length words ≤ 4096 → getD counts here 0 < 4096
+    count-small few = omega (arith, rw (eqb-yes {m = here} refl) at (ahead here), occurrences-≤ here (states-of words), length-states words)
+
+    pub one-count : here < 64 → CountsLeft words (set counts here (getD counts here 0 + 1)) (i + 1)
+    one-count l = record { within = omega arith; long = length-set counts here _ ∙ left .long; makes = λ x. go x (told (eqb x here)) }
+      where
+        go : (x : ℕ) → Told (eqb x here) → getD (set counts here (getD counts here 0 + 1)) x 0 + occurrences x
+            (states-of (drop (i + 1) words)) ≡ occurrences x (states-of words)
+        go x (yea y) =
+            let e : x ≡ here = same x here y in
+            rw e (omega (
+              arith,
+              rw (eqb-yes {m = here} refl) at (ahead here),
+              getD-set-same counts here (getD counts here 0 + 1) 0 (omega (arith, left .long)),
+            ))
+        go x (nay n) = omega (arith, rw n at (ahead x), getD-set-other counts here x (getD counts here 0 + 1) 0 (eqb-no n))
+
+  pub all-counted : StateWords words → length words ≤ i → Occurs counts (states-of words)
+  unfolding states-of occurrences
+  all-counted ok h = record {
+    each = λ q. omega (arith, rw (drop-of-length-le words h) at (left .makes q));
+    few =
+        omega (arith, length-states words, ok .few);
+  }
+
+-- ---- different states
+
+-- the occurrences of several states
+unfoldable pub among : List ℕ → List ℕ → ℕ
+among [] w = 0
+among (q ∷ l) w = occurrences q w + among l w
+
+occurrences-none : (x : ℕ) (l : List ℕ) → (x ∈ l → ⊥) → occurrences x l ≡ 0
+unfolding occurrences
+occurrences-none x [] n = refl
+occurrences-none x (q ∷ l) n = rw (eqb-false {m = x} {n = q} (λ e. n (List·Memᴰ·head e)))
+    (omega (arith, occurrences-none x l (λ m. n (List·Memᴰ·tail m))))
+
+ascending-once : (x : ℕ) (l : List ℕ) → Ascending l → occurrences x l ≤ 1
+unfolding occurrences
+ascending-once x [] a = omega arith
+ascending-once x (q ∷ l) (a, b) = go (told (eqb x q)) (ascending-once x l b)
+  where
+    go : Told (eqb x q) → occurrences x l ≤ 1 → cond (eqb x q) 1 0 + occurrences x l ≤ 1
+    go (yea y) h = rw y (omega (arith, occurrences-none x l (λ m. let e = same x q y in let k = a x m in omega arith)))
+    go (nay n) h = rw n (omega arith)
+
+among-none : (l : List ℕ) → among l [] ≡ 0
+unfolding among occurrences
+among-none [] = refl
+among-none (q ∷ l) = omega (arith, among-none l)
+
+among-cons : (l : List ℕ) (x : ℕ) (w : List ℕ) → among l (x ∷ w) ≡ occurrences x l + among l w
+unfolding among occurrences
+among-cons [] x w = refl
+among-cons (q ∷ l) x w = omega (arith, ap {B = ℕ} (λ b. cond b 1 0) (eqb-like q x x q sym sym), among-cons l x w)
+
+-- different states occur no more often than there are children
+pub among-≤ : (l w : List ℕ) → Ascending l → among l w ≤ length w
+among-≤ l [] a = omega (arith, among-none l)
+among-≤ l (x ∷ w) a = omega (arith, among-cons l x w, ascending-once x l a, among-≤ l w a)
+
+-- ---- sizes of signed numbers
+
+abs-neg : (z : ℤ) → natAbs (negℤ z) ≡ natAbs z
+abs-neg (pos zero) = refl
+abs-neg (pos (suc n)) = refl
+abs-neg (negsuc n) = refl
+
+pub abs-times : (z : ℤ) (n : ℕ) → natAbs (z *ℤ pos n) ≡ natAbs z * n
+abs-times (pos m) n = refl
+abs-times (negsuc m) n = abs-neg (pos (suc m * n))
+
+abs-minus : (a b : ℕ) → natAbs (subℕ a (suc b)) ≤ a + suc b
+abs-minus a b = go (ltb a (suc b))
+  where
+    go : (t : Bool) → natAbs (cond t (negsuc (suc b - suc a)) (pos (a - suc b))) ≤ a + suc b
+    go true = omega arith
+    go false = omega arith
+
+pub abs-plus : (a b : ℤ) → natAbs (a +ℤ b) ≤ natAbs a + natAbs b
+abs-plus (pos a) (pos b) = le-refl (a + b)
+abs-plus (pos a) (negsuc b) = abs-minus a b
+abs-plus (negsuc a) (pos b) = omega (arith, abs-minus b a)
+abs-plus (negsuc a) (negsuc b) = omega arith
+
+small-fits : {z : ℤ} → natAbs z < 2 ^ 31 → SFits w32 z
+small-fits {z} h = record { sfits = lt-of-le-of-lt (go z) h }
+  where
+    go : (z : ℤ) → mag z ≤ natAbs z
+    go (pos n) = le-refl n
+    go (negsuc n) = omega arith
+
+-- ---- total + times × count, as the machine finds it: in its goals a signed number z of 32 bits is `toZ w32 (ofZ w32 z)`
+
+module _ {total times : ℤ} {count : ℕ} (ft : SFits w32 total) (fc : SFits w32 times) (h : natAbs total + natAbs times * count < 2 ^ 31)
+    (hn : count < 2 ^ 31) where
+  times-is : toZ w32 (ofZ w32 times) *ℤ toZ w32 count ≡ times *ℤ pos count
+  times-is = ap₂ _*ℤ_ (toZ-ofZ fc) (toZ-pos w32 hn)
+
+  pub times-fits : SFits w32 (toZ w32 (ofZ w32 times) *ℤ toZ w32 count)
+  times-fits = rw times-is (small-fits (omega (arith, abs-times times count)))
+
+  plus-is : toZ w32 (ofZ w32 total) +ℤ toZ w32 (ofZ w32 (toZ w32 (ofZ w32 times) *ℤ toZ w32 count)) ≡ total +ℤ (times *ℤ pos count)
+  plus-is = ap₂ _+ℤ_ (toZ-ofZ ft) (toZ-ofZ times-fits ∙ times-is)
+
+  pub plus-fits : SFits w32 (toZ w32 (ofZ w32 total) +ℤ toZ w32 (ofZ w32 (toZ w32 (ofZ w32 times) *ℤ toZ w32 count)))
+  plus-fits = rw plus-is (small-fits (omega (arith, abs-times times count, abs-plus total (times *ℤ pos count))))
+
+  pub plus-times : toZ w32 (ofZ w32 (toZ w32 (ofZ w32 total) +ℤ toZ w32 (ofZ w32 (toZ w32 (ofZ w32 times) *ℤ toZ w32 count)))) ≡ total +ℤ
+      (times *ℤ pos count)
+  plus-times = toZ-ofZ plus-fits ∙ plus-is
 
 -- ---- coefficients
 
@@ -44,9 +210,8 @@ small-size (negsuc n) y = let l = ltb-true n 32768 y in omega arith
 
 -- ---- what is left of a sum
 
--- The coefficients of the states in `set` stand from word `at` on, and their terms with `sum` make the whole sum.
-pub record Terms (part : List ℕ) (end : ℕ) (all : List Coefficient) (w : List ℕ) (set at : ℕ) (sum : ℤ) : Type 0 where
-  pub rest : List Coefficient
+-- The coefficients of the states in `set`, those in `rest`, stand from word `at` on, and their terms with `sum` make the whole sum.
+pub record Terms (part : List ℕ) (end : ℕ) (all : List Coefficient) (w : List ℕ) (set at : ℕ) (sum : ℤ) (rest : List Coefficient) : Type 0 where
   pub marked : members 64 set ≡ marks rest
   pub words : WordsAt part at end (map (λ c. signed-word (c .times)) rest)
   pub smalls : (c : Coefficient) → c ∈ rest → Yes (small (c .times))
@@ -55,7 +220,8 @@ pub record Terms (part : List ℕ) (end : ℕ) (all : List Coefficient) (w : Lis
 
 pub record SumLeft (part counts : List ℕ) (from set at : ℕ) (sum : ℤ) : Type 0 where
   pub fits : set < 2 ^ 64
-  pub terms : (h : SumFrom part from) (w : List ℕ) → Occurs counts w → Terms part (h .next) (h .coefficients) w set at sum
+  pub terms : (h : SumFrom part from) (w : List ℕ) → Occurs counts w
+      → (rest : List Coefficient) × Terms part (h .next) (h .coefficients) w set at sum rest
 
 -- the two words of marks
 module _ {part : List ℕ} {from : ℕ} (h : SumFrom part from) where
@@ -75,10 +241,9 @@ module _ {part : List ℕ} {from : ℕ} (h : SumFrom part from) where
         stands-members marks-stand (record
         { ascends = m .ascends; below = λ q n. let l = m .below q n in let f = h .few-states in omega arith })
 
-    first-terms : {w : List ℕ} → length w ≤ 4096 → Terms part (h .next) (h .coefficients) w r (from + 2) (pos 0)
+    first-terms : {w : List ℕ} → length w ≤ 4096 → Terms part (h .next) (h .coefficients) w r (from + 2) (pos 0) (h .coefficients)
     unfolding sum-words set-words
     first-terms {w} few = record {
-      rest = h .coefficients;
       marked = marks-members;
       words = let two : from + 1 + 1 ≡ from + 2 = omega arith in rw two at (word-next (word-next (h .stands)));
       smalls = h .in-range .coefficients;
@@ -88,7 +253,7 @@ module _ {part : List ℕ} {from : ℕ} (h : SumFrom part from) where
 
 pub no-term : {part counts : List ℕ} {from r : ℕ} → SumFrom part from → r ≡ getD part from 0 + getD part
     (from + 1) 0 * W → SumLeft part counts from r (from + 2) (pos 0)
-no-term h e = record { fits = marks-stand h e .fits; terms = λ k w o. first-terms k e (o .few) }
+no-term h e = record { fits = marks-stand h e .fits; terms = λ k w o. (k .coefficients, first-terms k e (o .few)) }
 
 -- ---- the next term
 
@@ -101,53 +266,45 @@ record Next (part : List ℕ) (end : ℕ) (all : List Coefficient) (w : List ℕ
   below : first .state < 64
   room : natAbs sum + natAbs (first .times) * occurrences (first .state) w ≤ 32768 * 4096
   many : occurrences (first .state) w ≤ 4096
+  others : List Coefficient
   more : (r : ℕ) → members 64 r ≡ drop 1 (members 64 set) → Terms part end all w r (at + 1)
-      (sum +ℤ (first .times *ℤ pos (occurrences (first .state) w)))
+      (sum +ℤ (first .times *ℤ pos (occurrences (first .state) w))) others
 
 module _ {part : List ℕ} {end : ℕ} {all : List Coefficient} {w : List ℕ} {set at : ℕ} {sum : ℤ} (f : set < 2 ^ 64) where
-  next-of : (rest : List Coefficient) → set ≢ 0 → members 64 set ≡ marks rest → WordsAt part at end (map (λ c. signed-word (c .times)) rest)
-      → ((c : Coefficient) → c ∈ rest → Yes (small (c .times))) → sum +ℤ total rest w ≡ total all w → natAbs sum + 32768 * among
-      (marks rest) w ≤ 32768 * 4096
-      → Next part end all w set at sum
+  next-term : set ≢ 0 → (rest : List Coefficient) → Terms part end all w set at sum rest → Next part end all w set at sum
   unfolding total among
-  next-of [] n m words smalls adds bounded =
+  next-term n [] t =
       let (x, xs, e) = stands-some (members-stand f) n in
-      let z : _≡_ {A = List ℕ} [] (x ∷ xs) = sym m ∙ e in
+      let z : _≡_ {A = List ℕ} [] (x ∷ xs) = sym (t .marked) ∙ e in
       absurd (let o : _≡_ {A = ℕ} 0 1 = cc in omega arith)
-  next-of (c ∷ cs) n m words smalls adds bounded =
-      let y : Yes (small (c .times)) = smalls c (List·Memᴰ·head refl) in
+  next-term n (c ∷ cs) t =
+      let y : Yes (small (c .times)) = t .smalls c (List·Memᴰ·head refl) in
       let k : ℕ = occurrences (c .state) w in
       let size : natAbs (c .times) * k ≤ 32768 * k = mul-le-mul-right k (small-size (c .times) y) in
       record {
         first = c;
-        place = word-there words;
-        times = ap signed (word-here words) ∙ signed-back (c .times) (small-32 (c .times) y);
-        state = rw m;
-        below = members-set 64 set .below (c .state) (subst (λ l. c .state ∈ l) (sym m) (List·Memᴰ·head refl));
-        room = omega arith;
-        many = omega arith;
+        place = word-there (t .words);
+        times = ap signed (word-here (t .words)) ∙ signed-back (c .times) (small-32 (c .times) y);
+        state = rw (t .marked);
+        below = members-set 64 set .below (c .state) (subst (λ l. c .state ∈ l) (sym (t .marked)) (List·Memᴰ·head refl));
+        room = omega (arith, t .bounded);
+        many = omega (arith, t .bounded);
+        others = cs;
         more = λ r e. record {
-          rest = cs;
-          marked = e ∙ ap (drop 1) m;
-          words = word-next words;
-          smalls = λ d i. smalls d (List·Memᴰ·tail i);
-          adds = +ℤ-assoc sum (c .times *ℤ pos k) (total cs w) ∙ adds;
-          bounded = omega (arith, abs-plus sum (c .times *ℤ pos k), abs-times (c .times) k);
+          marked = e ∙ ap (drop 1) (t .marked);
+          words = word-next (t .words);
+          smalls = λ d i. t .smalls d (List·Memᴰ·tail i);
+          adds = +ℤ-assoc sum (c .times *ℤ pos k) (total cs w) ∙ t .adds;
+          bounded = omega (arith, t .bounded, abs-plus sum (c .times *ℤ pos k), abs-times (c .times) k);
         };
       }
 
-  next-term : set ≢ 0 → Terms part end all w set at sum → Next part end all w set at sum
-  next-term n t = next-of (t .rest) n (t .marked) (t .words) (t .smalls) (t .adds) (t .bounded)
-
-  no-more : set ≡ 0 → Terms part end all w set at sum → (at ≡ end) × (sum ≡ total all w)
+  no-more : set ≡ 0 → (rest : List Coefficient) → Terms part end all w set at sum rest → (at ≡ end) × (sum ≡ total all w)
   unfolding total
-  no-more z t = go (t .rest) (sym (t .marked) ∙ stands-none (members-stand f) z) (t .words) (t .adds)
-    where
-      go : (rest : List Coefficient) → marks rest ≡ [] → WordsAt part at end
-          (map (λ c. signed-word (c .times)) rest) → sum +ℤ total rest w ≡ total all w
-          → (at ≡ end) × (sum ≡ total all w)
-      go [] e words adds = (omega (arith, words .ends), sym (+ℤ-idr sum) ∙ adds)
-      go (c ∷ cs) e words adds = absurd (let o : _≡_ {A = ℕ} 0 1 = cc in omega arith)
+  no-more z [] t = (omega (arith, t .words .ends), sym (+ℤ-idr sum) ∙ t .adds)
+  no-more z (c ∷ cs) t =
+      let e : marks (c ∷ cs) ≡ [] = sym (t .marked) ∙ stands-none (members-stand f) z in
+      absurd (let o : _≡_ {A = ℕ} 0 1 = cc in omega arith)
 
 module _ {part counts : List ℕ} {from set at : ℕ} {sum : ℤ} (left : SumLeft part counts from set at sum) where
   module _ (n : set ≢ 0) where
@@ -155,16 +312,19 @@ module _ {part counts : List ℕ} {from set at : ℕ} {sum : ℤ} (left : SumLef
     fewer-left r e = let (x, xs, c) = stands-some
         (members-stand (left .fits)) n in omega (arith, ap length e, ap length c, length-drop 1 (members 64 set))
 
+    now-term : (h : SumFrom part from) {w : List ℕ} → Occurs counts w → Next part (h .next) (h .coefficients) w set at sum
+    now-term h {w} o = let (rest, t) = left .terms h w o in next-term (left .fits) n rest t
+
     -- a coefficient stands here, of a state below 64
     pub term-place : SumFrom part from → Counts counts → (at < length part) × (getD (members 64 set) 0 64 < 64)
-    term-place h (w, o) = let t = next-term (left .fits) n (left .terms h w o) in (t .place, omega (arith, t .state, t .below))
+    term-place h (w, o) = let t = now-term h o in (t .place, omega (arith, t .state, t .below))
 
     module _ {q : ℕ} {times : ℤ} (eq : q ≡ getD (members 64 set) 0 64) (et : times ≡ signed (getD part at 0)) where
       -- there is room for its term
       pub term-room : SumFrom part from → Counts counts → (natAbs sum + natAbs times * getD counts q 0 < 2 ^ 31) ×
           (getD counts q 0 < 2 ^ 31)
       term-room h (w, o) =
-          let t = next-term (left .fits) n (left .terms h w o) in
+          let t = now-term h o in
           let e : q ≡ t .first .state = eq ∙ t .state in
           rw (e, et, t .times, o .each (t .first .state)) (omega (arith, t .room), omega (arith, t .many))
 
@@ -174,10 +334,10 @@ module _ {part counts : List ℕ} {from set at : ℕ} {sum : ℤ} (left : SumLef
       one-term {r} es em f = record {
         fits = f;
         terms = λ h w o.
-            let t = next-term (left .fits) n (left .terms h w o) in
+            let t = now-term h o in
             let e : q ≡ t .first .state = eq ∙ t .state in
-            rw (es, e, et, t .times, o .each (t .first .state)) (t .more r em);
+            (t .others, rw (es, e, et, t .times, o .each (t .first .state)) (t .more r em));
       }
 
   pub all-terms : set ≡ 0 → Summed part from counts at sum
-  all-terms z h w o = no-more (left .fits) z (left .terms h w o)
+  all-terms z h w o = let (rest, t) = left .terms h w o in no-more (left .fits) z rest t

@@ -3,7 +3,7 @@ use mathlib.Core.Path.{refl}
 use Prim.Native.Nat.{_-_}
 use native.Mathlib.Omega.{arith}
 use borrow.Author.Needs.{needs}
-use Rattle.judge_count.proofs.CountLaws.{StepsLeft, steps-there, steps-few, no-step, step-here, one-step, all-steps}
+use Rattle.judge_count.proofs.StepLaws.{StepsLeft, steps-there, steps-few, no-step, step-here, one-step, all-steps}
 use Rattle.judge_count.proofs.count_fits.Statement.{statement}
 use Rattle.judge_count.proofs.count_fits.Tie as tie
 

@@ -3,7 +3,7 @@ use Prim.Native.Nat.{_-_, _≤_}
 use native.Mathlib.Omega.{arith}
 use borrow.Author.Needs.{needs}
 use lib.ListN.{length, getD}
-use Rattle.judge_count.proofs.OccursLaws.{CountsLeft, no-count, count-small, one-count, all-counted}
+use Rattle.judge_count.proofs.SumLaws.{CountsLeft, no-count, count-small, one-count, all-counted}
 use Rattle.judge_count.proofs.occurrences.Statement.{statement}
 use Rattle.judge_count.proofs.occurrences.Tie as tie
 

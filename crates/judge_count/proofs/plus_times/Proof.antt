@@ -1,6 +1,6 @@
 -- `judge_count::plus_times` meets its contract.
 use borrow.Author.Needs.{needs}
-use Rattle.judge_count.proofs.SignedLaws.{times-fits, plus-fits, plus-times}
+use Rattle.judge_count.proofs.SumLaws.{times-fits, plus-fits, plus-times}
 use Rattle.judge_count.proofs.plus_times.Statement.{statement}
 use Rattle.judge_count.proofs.plus_times.Tie as tie
 

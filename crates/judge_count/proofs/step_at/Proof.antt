@@ -1,12 +1,11 @@
 -- `judge_count::step_at` meets its contract: by its kind a step says what its words say, and it has one of the five kinds.
-use mathlib.Core.Path.{refl}
 use mathlib.Core.Bool.{_&&_, _||_}
 use Prim.Native.Nat.{_+_, _<_}
 use native.Mathlib.Omega.{arith}
 use borrow.Author.Needs.{needs}
 use lib.ListN.{length}
 use Rattle.judge_count.proofs.SumLaws.{marks-there}
-use Rattle.judge_count.proofs.StepLaws.{said, kind-there, no-kind, sum-room, at-most-found, remainder-found, not-found, pair-found}
+use Rattle.judge_count.proofs.StepLaws.{said, kind-there, sum-room, at-most-found, remainder-found, not-found, pair-found}
 use Rattle.judge_count.proofs.step_at.Statement.{statement}
 use Rattle.judge_count.proofs.step_at.Tie as tie
 
@@ -25,7 +24,7 @@ step-at-spec =
     tie.close
     (tie.spec
     (λ c. omega (arith, kind-there (c .before .pre .0)))
-    (λ c. kind-there (c .before .before .pre .0))
+    (λ c. kind-there (c .before .before .pre .0) .0)
     (λ c. omega (arith, marks-there (said 1 (c .match .keys1) (c .before .before .before .pre .0) .sum)))
     (λ c κs. (said 1 (c .match .keys1) (c .before .before .before .pre .0) .sum, c .before .before .before .pre .1))
     (λ c κs.
@@ -60,5 +59,4 @@ step-at-spec =
     (λ c earlier t h w o. pair-found t w _||_ (c .before .truth-at4 .ensures) (c .truth-at5 .ensures)
     (said 5 (c .before .before .match .keys5) h))
     (λ c earlier t h w o.
-    let r = c .match .rest in
-    absurd (no-kind _ _ _ _ _ (said _ refl h) (r .0 .0 .0 .0 .1) (r .0 .0 .0 .1) (r .0 .0 .1) (r .0 .1) (r .1))))
+    absurd (omega (arith, kind-there h, c .match .rest))))
