@@ -26,26 +26,22 @@ all-in-32 p i (y ∷ ss) l (h, hs) x (List·Memᴰ·head e) = subst (StepInRange
 all-in-32 p i (y ∷ ss) l (h, hs) x (List·Memᴰ·tail m) = all-in-32 p (suc i) ss (omega arith) hs x m
 
 -- the number of steps, then the steps
-pub record CountFields (p : ℕ) (s : List ℕ) (c : ℕ) (ss : List Step) : Type 0 where
-  pub there : c < length s
-  pub number : length ss ≡ getD s c 0
-  pub steps : StepsAt p s (c + 1) ss
-  pub some : 1 ≤ length ss
-  pub few : length ss ≤ 32
+module _ {p c : ℕ} {s : List ℕ} {ss : List Step} (h : CountAt p s c ss) where
+  pub count-there : c < length s
+  unfolding count-words
+  count-there = word-there (h .there)
 
-pub count-fields : {p c : ℕ} {s : List ℕ} {ss : List Step} → CountAt p s c ss → CountFields p s c ss
-unfolding count-words
-count-fields {p} {ss = ss} h = record {
-  there = word-there (h .there);
-  number = sym (word-here (h .there));
-  steps = record {
+  pub count-number : length ss ≡ getD s c 0
+  unfolding count-words
+  count-number = sym (word-here (h .there))
+
+  pub count-steps : StepsAt p s (c + 1) ss
+  unfolding count-words
+  count-steps = record {
     end = h .end;
     there = word-next (h .there);
     ranges = all-in-32 p 0 ss (omega (arith, h .ranges .few-steps)) (h .ranges .steps);
-  };
-  some = h .ranges .some-steps;
-  few = h .ranges .few-steps;
-}
+  }
 
 -- ---- lifted count parts, and two in one
 

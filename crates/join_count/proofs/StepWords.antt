@@ -134,5 +134,5 @@ module _ {l : Lift} {s : List ℕ} {a e : ℕ} (small : SmallLift l) (given : So
       → SumOf (states-of l) s (record { marks = set; from = a + 1 + 2; to = b }) cs
   sum-found h = sum-of few-states h
 
-  pub refers-here : 2 < getD s a 0 → (x : Step) → StepAt (states-of l) s a x → Refers s a e x
-  refers-here k x h = refers x h k (ends-here x h)
+  pub refers-here : {k : ℕ} → k ≡ getD s a 0 → 2 < k → (x : Step) → StepAt (states-of l) s a x → Refers s a e x
+  refers-here i k x h = refers x h (omega arith) (ends-here x h)

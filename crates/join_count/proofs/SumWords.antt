@@ -1,6 +1,6 @@
 -- The words of a sum, and of a lifted one.
 use mathlib.Core.Path.{_≡_, refl, sym, ap, ap₂, _∙_}
-use mathlib.Core.Bool.{Bool, true, false, cond, and-true, false≢true}
+use mathlib.Core.Bool.{Bool, true, false, cond, and-true}
 use mathlib.Core.List.{List, [], _∷_, _++_, map, flatMap, List·Memᴰ·head, List·Memᴰ·tail}
 use Prim.Native.Nat.{ℕ, zero, suc, _+_, _-_, _*_, _/_, _%_, _^_, _≤_, _<_}
 use native.Mathlib.Omega.{arith}
@@ -10,7 +10,7 @@ use lib.ListN.{length, getD, length-map}
 use Rattle.model.specs.Lists.{_∈_, has, only, from, numbers, row, grid, Ascending, SetBelow}
 use Rattle.model.specs.Sheet.{W, mask, set-words, bit, members, Coefficient, signed-word, marks, sum-words}
 use Rattle.model.specs.Compose.{pair, Side, S, T, half, Sizes, coefficient-of, lift-sum, of-side, of-pairs}
-use Rattle.model.proofs.Tests.{Told, yea, nay, told, same, eqb-yes, eqb-no, eqb-false}
+use Rattle.model.proofs.Tests.{Told, yea, nay, told, yes-like, same, eqb-yes, eqb-no, eqb-false}
 use Rattle.model.proofs.ListLaws.{∈-has, has-∈, has-no, map-each, each-append}
 use Rattle.model.proofs.ListLaws.{∈-numbers, ∈-filter, numbers-<, grid-∈, asc-ext, asc-from, asc-filter, asc-grid}
 use Rattle.model.proofs.Pairs.{either, half-pair, half-below, ∈-pairs}
@@ -193,14 +193,9 @@ bit-mark {p} {cs = cs} h q l = ap (λ (n : ℕ). bit n q) (h .marks) ∙ bit-mas
 -- a pair is marked in a lifted sum if its half is marked
 has-lifted : (side : Side) (n : Sizes) (cs : List Coefficient) → Ascending (marks cs) → {x : ℕ} → x < of-pairs n
     → has (marks cs) (half side (n .of-T) x) ≡ has (marks (lift-sum side n cs)) x
-has-lifted side n cs asc {x} l = rw (lifted-marks side n cs asc) (go (told (test x)))
-  where
-    test : ℕ → Bool
-    test y = has (marks cs) (half side (n .of-T) y)
-
-    go : Told (test x) → test x ≡ has (flatMap (λ y. only (test y) y) (numbers (of-pairs n))) x
-    go (yea t) = t ∙ sym (∈-has (∈-filter test (of-pairs n) x .1 (l, t)))
-    go (nay t) = t ∙ sym (has-no (λ m. false≢true (sym t ∙ ∈-filter test (of-pairs n) x .0 m .1)))
+has-lifted side n cs asc {x} l =
+    let marked = ∈-filter (λ y. has (marks cs) (half side (n .of-T) y)) (of-pairs n) x in
+    rw (lifted-marks side n cs asc) (yes-like _ _ (λ t. ∈-has (marked .1 (l, t))) (λ t. marked .0 (has-∈ _ t) .1))
 
 -- The words of the coefficients: each pair has that of its half. The pairs of a state of S are a row, one for each state of T: a word of S
 -- is there that often in a row, and all words of T once in each row.

@@ -1,5 +1,5 @@
 // Count parts of joint rules: one alone lifted to pairs of states, and two joined.
-ghost use Prim.Native.Nat.{_≤_, _<_};
+ghost use Prim.Native.Nat.{_≤_};
 ghost use lib.ListN.{getD};
 ghost use Rattle.model.specs.Compose.{of-side};
 ghost use Rattle.page.specs.Page.{Writes};
@@ -88,26 +88,19 @@ fn lift_sum_step(
     copy(words, sum.to, end, out, summed)
 }
 
-// Writes the step from `a` to `end` that refers to one or two steps, their numbers shifted: the first and the last, which may be one.
-fn shift_step(words: &[u32], a: usize, end: usize, lift: Lift, out: &mut [u32], at: usize) -> usize
-    requires { ⌜ SmallLift lift × SomeStep lift (now words) a end × (2 < getD (now words) a 0) ⌝ }
-    ensures { λ r. ⌜ LiftsStep lift (now (words .entry)) a (λ ws. Writes (now (out .entry)) at ws (now (out .exit)) r) ⌝ }
-{
-    let kind = parts::at(words, a);
-    let first = lift.shift + parts::field(words, a, 1);
-    let last = lift.shift + parts::at(words, end - 1);
-    copy(&[kind, first, last], 0, end - a, out, at)
-}
-
-// Writes the step from `a` to `end`, lifted.
+// Writes the step from `a` to `end`, lifted. One that refers to one or two steps has their numbers shifted: the first and the last,
+// which may be one.
 fn lift_step(words: &[u32], a: usize, end: usize, lift: Lift, out: &mut [u32], at: usize) -> usize
     requires { ⌜ SmallLift lift × SomeStep lift (now words) a end ⌝ }
     ensures { λ r. ⌜ LiftsStep lift (now (words .entry)) a (λ ws. Writes (now (out .entry)) at ws (now (out .exit)) r) ⌝ }
 {
-    if parts::at(words, a) <= REMAINDER {
+    let kind = parts::at(words, a);
+    if kind <= REMAINDER {
         return lift_sum_step(words, a, end, lift, out, at);
     }
-    shift_step(words, a, end, lift, out, at)
+    let first = lift.shift + parts::field(words, a, 1);
+    let last = lift.shift + parts::at(words, end - 1);
+    copy(&[kind, first, last], 0, end - a, out, at)
 }
 
 // Writes the steps of the count part at `c`, lifted.

@@ -1,15 +1,14 @@
 -- The words of an order part, and of lifted and paired ones.
 use mathlib.Core.Path.{_≡_, refl, sym, ap, ap₂, _∙_}
 use mathlib.Core.List.{List, [], _∷_, _++_, map, flatMap, map-id, List·Memᴰ·head, List·Memᴰ·tail}
-use Prim.Native.Nat.{ℕ, suc, _+_, _*_, _/_, _%_, _≤_}
-use native.Mathlib.Nat.{suc-mul}
+use Prim.Native.Nat.{ℕ, _+_, _*_, _/_, _%_, _≤_}
 use native.Mathlib.Omega.{arith}
-use lib.ListN.{length, getD, length-append, length-map}
+use lib.ListN.{length, getD, length-map}
 use lib.Seq.{slice}
 use Rattle.model.specs.Lists.{_∈_, has, numbers, row, grid}
 use Rattle.model.specs.Sheet.{W, mask, set-words, Arc, arc-word, arc-of, Order, order-words, OrderInRange}
 use Rattle.model.specs.Compose.{pair, Side, Sizes, of-side, of-other, lift-arc, lift-order, pair-arc, pair-order}
-use Rattle.model.proofs.ListLaws.{length-from, map-append}
+use Rattle.model.proofs.ListLaws.{length-from, map-append, length-grid}
 use Rattle.model.proofs.PartLaws.{words-from}
 use Rattle.model.proofs.RuleWords.{order-room}
 use Rattle.model.proofs.Spans.{word-here, span-right}
@@ -38,17 +37,6 @@ module _ {A B C : Type 0} (f : A → B → C) (g : C → ℕ) (k : A → ℕ) {D
   map-grid (a ∷ as′) bs e =
       map-append g (row f bs a) (grid f as′ bs)
       ∙ ap₂ (_++_) (map-row bs a (λ b m. e a b (List·Memᴰ·head refl) m)) (map-grid as′ bs (λ x b m. e x b (List·Memᴰ·tail m)))
-
-length-row : {A B C : Type 0} (f : A → B → C) (bs : List B) (a : A) → length (row f bs a) ≡ length bs
-unfolding row flatMap
-length-row f [] a = refl
-length-row f (b ∷ bs) a = ap suc (length-row f bs a)
-
-pub length-grid : {A B C : Type 0} (f : A → B → C) (as′ : List A) (bs : List B) → length (grid f as′ bs) ≡ length as′ * length bs
-unfolding grid flatMap
-length-grid f [] bs = omega arith
-length-grid f (a ∷ as′) bs =
-    omega (arith, length-append (row f bs a) (grid f as′ bs), length-row f bs a, length-grid f as′ bs, suc-mul (length as′) (length bs))
 
 -- ---- an order part
 
@@ -98,8 +86,8 @@ module _ (side : Side) {n : Sizes} (few : FewPairs n) {s : List ℕ} {o : Order}
   pub lifted-few : x .arcs * other ≤ 1024 * 64
   lifted-few = rw (h .arcs, eo) (mul-le (length (o .arcs)) (of-other side n) (ranges .few-arcs) (few-other few side))
 
-  pub lifted-order-words : (x .positions ∷ x .accepting % W ∷ x .accepting / W ∷ x .arcs * other ∷ []) ++ lifted-grid side n (arcs-in s x)
-      ≡ order-words (lift-order side n o)
+  pub lifted-order-words : (x .positions ∷ x .accepting % W ∷ x .accepting / W ∷ x .arcs * other ∷ [])
+      ++ lifted-grid side n (arcs-in s x) ≡ order-words (lift-order side n o)
   unfolding order-words lift-order set-words
   lifted-order-words =
       let others = numbers (of-other side n) in
@@ -131,7 +119,8 @@ module _ {n : Sizes} (few : FewPairs n) {s t : List ℕ} {o u : Order} {x y : Or
     };
   }
 
-  pub paired-order-words : PairsFit s t x y (n .of-T) → {set : ℕ} → set ≡ pair-set (x .positions) (y .positions) (x .accepting) (y .accepting)
+  pub paired-order-words : PairsFit s t x y (n .of-T) → {set : ℕ}
+      → set ≡ pair-set (x .positions) (y .positions) (x .accepting) (y .accepting)
       → (x .positions * y .positions ∷ set % W ∷ set / W ∷ x .arcs * y .arcs ∷ [])
       ++ paired-grid (n .of-T) s t (record { s = x; t = y }) ≡ order-words (pair-order n o u)
   unfolding order-words pair-order set-words

@@ -5,7 +5,7 @@ use mathlib.Core.Bool.{Bool, true, false, _&&_}
 use mathlib.Core.List.{List, [], _∷_, _++_, map, flatMap, append-assoc, List·Memᴰ·head, List·Memᴰ·tail, List·Memᴰ·not-nil}
 use mathlib.Core.List.{List·Memᴰ·cases-cons, List·Memᴰ·append-cases, List·Memᴰ·eq-of-singleton, Memᴰ·append-left, Memᴰ·append-right}
 use Prim.Native.Nat.{ℕ, zero, suc, _+_, _*_, _/_, _%_, _≤_, _<_}
-use native.Mathlib.Nat.{mul-le-mul-right}
+use native.Mathlib.Nat.{mul-le-mul-right, suc-mul}
 use native.Mathlib.Numerals.{add-one}
 use native.Mathlib.Omega.{arith}
 use lib.Arith.{digits-div, digits-mod}
@@ -213,6 +213,17 @@ grid-∈ f as′ bs m =
     let (a, n, t) = each-∈ (row f bs) as′ m in
     let (b, k, u) = each-∈ (λ b. f a b ∷ []) bs t in
     (a, b, n, k, List·Memᴰ·eq-of-singleton u)
+
+length-row : {A B C : Type 0} (f : A → B → C) (bs : List B) (a : A) → length (row f bs a) ≡ length bs
+unfolding row flatMap
+length-row f [] a = refl
+length-row f (b ∷ bs) a = ap suc (length-row f bs a)
+
+pub length-grid : {A B C : Type 0} (f : A → B → C) (as′ : List A) (bs : List B) → length (grid f as′ bs) ≡ length as′ * length bs
+unfolding grid flatMap
+length-grid f [] bs = omega arith
+length-grid f (a ∷ as′) bs =
+    omega (arith, length-append (row f bs a) (grid f as′ bs), length-row f bs a, length-grid f as′ bs, suc-mul (length as′) (length bs))
 
 -- ---- pairs as numbers
 

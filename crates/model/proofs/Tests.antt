@@ -50,6 +50,12 @@ pub told : (b : Bool) → Told b
 told true = yea refl
 told false = nay refl
 
+-- two tests that pass together are one
+pub yes-like : (a b : Bool) → (Yes a → Yes b) → (Yes b → Yes a) → a ≡ b
+yes-like true b f g = sym (f refl)
+yes-like false true f g = g refl
+yes-like false false f g = refl
+
 -- ---- numbers
 
 pub same : (m n : ℕ) → Yes (eqb m n) → m ≡ n
@@ -66,11 +72,7 @@ eqb-false {m} {n} f = tests.ne-eqb m n f
 
 -- two equations that hold together are tested alike
 pub eqb-like : (m n k l : ℕ) → (m ≡ n → k ≡ l) → (k ≡ l → m ≡ n) → eqb m n ≡ eqb k l
-eqb-like m n k l f g = go (told (eqb k l))
-  where
-    go : Told (eqb k l) → eqb m n ≡ eqb k l
-    go (yea e) = eqb-yes (g (same k l e)) ∙ sym e
-    go (nay e) = eqb-false (λ h. eqb-no e (f h)) ∙ sym e
+eqb-like m n k l f g = yes-like (eqb m n) (eqb k l) (λ e. eqb-yes (f (same m n e))) (λ e. eqb-yes (g (same k l e)))
 
 pub between-yes : (a b x : ℕ) → a ≤ x → x ≤ b → Yes (leb a x && leb x b)
 between-yes a b x h k = and-yes (tests.le-leb a x h) (tests.le-leb x b k)

@@ -1,7 +1,7 @@
 -- Laws of sets as numbers: a mask in two parts; all numbers below k, and those that are not in a set; sets of pairs, row by row.
 use mathlib.Core.Path.{_≡_, refl, sym, ap, ap₂, _∙_}
 use mathlib.Core.Logic.{_≢_}
-use mathlib.Core.Bool.{Bool, true, false, cond, not, _&&_, false≢true}
+use mathlib.Core.Bool.{Bool, true, false, cond, not, _&&_}
 use mathlib.Core.List.{List}
 use Prim.Native.Nat.{ℕ, zero, suc, _+_, _-_, _*_, _/_, _%_, _^_, _≤_, _<_, min}
 use native.Mathlib.Nat.{zero-add, mul-assoc, mul-le-mul-right, pow-suc, mod-lt, div-lt-iff-lt-mul, le-div-iff-mul-le, lt-of-not-le}
@@ -12,9 +12,9 @@ use borrow.Author.Tests as tests
 use mir.Val.{boolByte}
 use Rattle.model.specs.Lists.{_∈_, has, grid, SetBelow}
 use Rattle.model.specs.Sheet.{mask, bit}
-use Rattle.model.specs.Compose.{pair, Side, S, T, half}
-use Rattle.model.proofs.Tests.{Told, yea, nay, told, and-yes}
-use Rattle.model.proofs.ListLaws.{∈-has, has-∈, has-no, pair-left, pair-right}
+use Rattle.model.specs.Compose.{pair, S, T, half}
+use Rattle.model.proofs.Tests.{and-yes, and-left, and-right, yes-like}
+use Rattle.model.proofs.ListLaws.{∈-has, has-∈, pair-left, pair-right}
 use Rattle.model.proofs.Pairs.{either, on-both, ∈-pairs}
 use Rattle.model.proofs.SetWords.{bit-mask, mask-<}
 use Rattle.bits.proofs.BitLaws.{mask-like, mask-bits, bit-and, shifted-one}
@@ -172,17 +172,12 @@ module _ {m n s t i set : ℕ} (h : Rows m n s t i set) (l : i < m) where
 
 module _ {a b : ℕ} {l m : List ℕ} (h : SetBelow a l) (k : SetBelow b m) where
   has-pairs : (x : ℕ) → has (grid (pair b) l m) x ≡ has l (x / b) && has m (x % b)
-  has-pairs x = go (told (has l (x / b))) (told (has m (x % b)))
-    where
-      there : x ∈ grid (pair b) l m → (side : Side) → half side b x ∈ either l m side
-      there = ∈-pairs b (either l m) (k .below) x .0
-
-      go : Told (has l (x / b)) → Told (has m (x % b)) → has (grid (pair b) l m) x ≡ has l (x / b) && has m (x % b)
-      go (yea s) (yea t) =
-          let halves = on-both (λ side. half side b x ∈ either l m side) (has-∈ l s) (has-∈ m t) in
-          ∈-has (∈-pairs b (either l m) (k .below) x .1 halves) ∙ sym (and-yes s t)
-      go (nay s) t = has-no (λ i. false≢true (sym s ∙ ∈-has (there i S))) ∙ sym (ap (λ (c : Bool). c && has m (x % b)) s)
-      go (yea s) (nay t) = has-no (λ i. false≢true (sym t ∙ ∈-has (there i T))) ∙ sym (ap₂ _&&_ s t)
+  has-pairs x =
+      let (there, back) = ∈-pairs b (either l m) (k .below) x in
+      yes-like _ _ (λ t. let halves = there (has-∈ _ t) in and-yes (∈-has (halves S)) (∈-has (halves T))) (λ t.
+      let s = has-∈ l (and-left (has l (x / b)) (has m (x % b)) t) in
+      let t = has-∈ m (and-right (has l (x / b)) (has m (x % b)) t) in
+      ∈-has (back (on-both (λ side. half side b x ∈ either l m side) s t)))
 
   pub pairs-mask : 1 ≤ b
       → mask (a * b) (λ x. bit (mask a (has l)) (x / b) && bit (mask b (has m)) (x % b)) ≡ mask (a * b) (has (grid (pair b) l m))

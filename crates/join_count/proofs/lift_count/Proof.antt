@@ -2,7 +2,7 @@
 use mathlib.Core.Path.{sym, _∙_}
 use native.Mathlib.Omega.{arith}
 use Rattle.page.proofs.PageLaws.{then, as-words}
-use Rattle.join_count.proofs.CountWords.{count-fields, lifted-count-words}
+use Rattle.join_count.proofs.CountWords.{count-number, lifted-count-words}
 use borrow.Author.Needs.{needs}
 use Rattle.join_count.proofs.lift_count.Statement.{statement}
 use Rattle.join_count.proofs.lift_count.Tie as tie
@@ -21,5 +21,5 @@ lift-count-spec =
     let steps = c .before .before in
     let put = steps .before .before .before .before in
     λ ss h.
-    as-words (lifted-count-words _ _ ss (count-fields h .number ∙ sym (put .before .at .ensures)))
+    as-words (lifted-count-words _ _ ss (count-number h ∙ sym (put .before .at .ensures)))
     (then (put .put .ensures) (steps .lift-steps .ensures ss h))))

@@ -10,7 +10,7 @@ use Rattle.model.proofs.PartLaws.{PartsLeft, next-part, none-left, each-next, e
 use Rattle.page.proofs.PageLaws.{Left, begun, more, done, kept}
 use Rattle.join_count.specs.Counts.{states-of, pairs-of, lifts, SomeStep}
 use Rattle.join_count.proofs.StepWords.{ends-here, ends-within}
-use Rattle.join_count.proofs.CountWords.{count-fields}
+use Rattle.join_count.proofs.CountWords.{count-there, count-number, count-steps}
 use borrow.Author.Needs.{needs}
 use Rattle.join_count.proofs.lift_steps.Statement.{statement}
 use Rattle.join_count.proofs.lift_steps.Tie as tie
@@ -45,10 +45,8 @@ lift-steps-spec =
     Inv-loop
     μ-loop
     (λ c κs. search needs)
-    (λ c. omega (arith, count-fields (c .before .before .before .pre .1 .1) .there))
-    (λ c. λ ss h.
-    let f = count-fields h in
-    (ss, record { stand = f .steps; number = omega (arith, f .number) }, begun refl))
+    (λ c. omega (arith, count-there (c .before .before .before .pre .1 .1)))
+    (λ c. λ ss h. (ss, record { stand = count-steps h; number = omega (arith, count-number h) }, begun refl))
     (λ c κs. search needs)
     (λ c. omega (arith, ends-within (start c .pre .0) (here c)))
     (λ c κs. (start (c .before) .pre .0, here (c .before)))

@@ -17,7 +17,8 @@ lift-order-spec =
     let read = c .before .before in
     let start = read .before .before .before in
     let (few, (o, h)) = start .pre in
-    omega (arith, lifted-few (side-of (start .args .side)) few (read .order-head .ensures _ o h) (h .ranges) (c .before .of-other .ensures)))
+    let head = read .order-head .ensures _ o h in
+    omega (arith, lifted-few (side-of (start .args .side)) few head (h .ranges) (c .before .of-other .ensures)))
     (λ c κs. search needs)
     (λ c κs.
     let read = c .before .before .before .before .before .before .before in
