@@ -12,6 +12,8 @@ use Rattle.model.specs.Compose.{pair, of-pairs}
 use Rattle.model.proofs.ListLaws.{each-append}
 use Rattle.model.proofs.PartLaws.{word-is}
 use Rattle.model.proofs.RuleWords.{as-text, as-tag, text-key, tag-key}
+use Rattle.page.specs.Page.{Writes}
+use Rattle.page.proofs.PageLaws.{as-words, Left, more}
 use Rattle.join_pairs.specs.declared.Sizes.{Sizes}
 use Rattle.join_alike.specs.declared.Spot.{Spot}
 use Rattle.join_alike.specs.declared.RulePair.{RulePair}
@@ -55,21 +57,25 @@ inner-small (tags g c d s t) h h′ e =
 inner-small (contents o u φ ψ s t) h h′ e = let (g, c, q, i) = as-tag _ h e in let z : _≡_ {A = ℕ} 0 1 = cc i in absurd (omega arith)
 
 module _ {u v : List ℕ} {n : Sizes} {r : RulePair} (h : Alike u v n r) where
-  -- the words of the joint rule
-  pub text-words : getD u (r .s .at) 0 ≡ 33 → {k q : ℕ} → k ≡ getD u (r .s .at + 1) 0 → q ≡ target-in u v n r
-      → slice 0 3 (33 ∷ k ∷ q ∷ []) ≡ pair-words u v n r
-  text-words e ek eq = let (z, w) = alike-paired h in text-rule w (h .first .begins) e ek eq ∙ one-rule w
+  -- the words of the joint rule, written
+  module _ {l l′ : List ℕ} {i i′ : ℕ} where
+    pub text-written : getD u (r .s .at) 0 ≡ 33 → {k q : ℕ} → k ≡ getD u (r .s .at + 1) 0 → q ≡ target-in u v n r
+        → Writes l i (slice 0 3 (33 ∷ k ∷ q ∷ [])) l′ i′ → Writes l i (pair-words u v n r) l′ i′
+    text-written e ek eq = let (z, w) = alike-paired h in as-words (text-rule w (h .first .begins) e ek eq ∙ one-rule w)
 
-  module _ (e : getD u (r .s .at) 0 ≡ 38) {c d : ℕ} (ec : c ≡ getD u (r .s .at + 2) 0) (ed : d ≡ getD v (r .t .at + 2) 0) where
-    pub inners-small : (n .t ≤ 64) × (c ≤ 255) × (d ≤ 255)
-    inners-small =
+    pub tag-written : getD u (r .s .at) 0 ≡ 38 → {g c d j q : ℕ} → c ≡ getD u (r .s .at + 2) 0 → d ≡ getD v (r .t .at + 2) 0
+        → g ≡ getD u (r .s .at + 1) 0 → j ≡ pair (n .t) c d → q ≡ target-in u v n r
+        → Writes l i (slice 0 4 (38 ∷ g ∷ j ∷ q ∷ [])) l′ i′ → Writes l i (pair-words u v n r) l′ i′
+    tag-written e ec ed eg ej eq =
         let (z, w) = alike-paired h in
-        let (few-c, few-d) = inner-small w (h .first .begins) (h .second .begins) e in
-        (few-states h .1, omega (arith, few-states h, states-S h), omega (arith, few-states h, states-T h))
+        as-words (tag-rule w (h .first .begins) (h .second .begins) e eg ec ed ej eq ∙ one-rule w)
 
-    pub tag-words : {g i q : ℕ} → g ≡ getD u (r .s .at + 1) 0 → i ≡ pair (n .t) c d → q ≡ target-in u v n r
-        → slice 0 4 (38 ∷ g ∷ i ∷ q ∷ []) ≡ pair-words u v n r
-    tag-words eg ei eq = let (z, w) = alike-paired h in tag-rule w (h .first .begins) (h .second .begins) e eg ec ed ei eq ∙ one-rule w
+  pub inners-small : getD u (r .s .at) 0 ≡ 38 → {c d : ℕ} → c ≡ getD u (r .s .at + 2) 0 → d ≡ getD v (r .t .at + 2) 0
+      → (n .t ≤ 64) × (c ≤ 255) × (d ≤ 255)
+  inners-small e ec ed =
+      let (z, w) = alike-paired h in
+      let (few-c, few-d) = inner-small w (h .first .begins) (h .second .begins) e in
+      (few-states h .1, omega (arith, few-states h, states-S h), omega (arith, few-states h, states-T h))
 
 -- ---- rows
 
@@ -78,13 +84,16 @@ module _ {u v index : List ℕ} {x : Spot} {n : Sizes} {m j : ℕ} (h : InRow u 
   abbrev words : Rule → List ℕ
   words = rule-words (of-pairs (sizes-in u v))
 
-  pub row-words-next : {i : ℕ} → i ≡ getD index (67 + j) 0 / 2 ^ 16
-      → flatMap words (row-from u v x j) ≡ pair-words u v n (record { s = x; t = y }) ++ flatMap words (row-from u v x i)
-  row-words-next {i} f =
-      let (_, next, _) = row-next h l e f in
-      ap (flatMap words) next ∙ each-append words (pair-in u v n (record { s = x; t = y })) (row-from u v x i)
-      ∙ ap (λ (k : model.Sizes). flatMap (rule-words (of-pairs k)) (pair-in u v n (record { s = x; t = y })) ++ flatMap words
-      (row-from u v x i)) (sym (h .sizes))
+  -- the rules from the next of the chain on
+  pub row-written : {i : ℕ} → i ≡ getD index (67 + j) 0 / 2 ^ 16 → {l₀ ws l l′ : List ℕ} {i₀ k k′ : ℕ}
+      → Left l₀ i₀ ws l k (flatMap words (row-from u v x j)) → Writes l k (pair-words u v n (record { s = x; t = y })) l′ k′
+      → InRow u v index x n m i × Left l₀ i₀ ws l′ k′ (flatMap words (row-from u v x i))
+  row-written {i} f left w =
+      let (walk, next, _) = row-next h l e f in
+      let made = pair-in u v n (record { s = x; t = y }) in
+      let all = ap (flatMap words) next ∙ each-append words made (row-from u v x i)
+      ∙ ap (λ (k : model.Sizes). flatMap (rule-words (of-pairs k)) made ++ flatMap words (row-from u v x i)) (sym (h .sizes)) in
+      (walk, more left all w)
 
   pub pair-few : FewPositions (row-in u v x) → FewPositions (pair-in u v n (record { s = x; t = y }))
   pair-few few z k = few z (row-among h l e k)

@@ -15,7 +15,9 @@ use Rattle.model.proofs.ListLaws.{∈-has, has-no, ∈-filter}
 use Rattle.model.proofs.SetWords.{bit-mask}
 use Rattle.model.proofs.PassedLaws.{coded, in-range, states-word, final-words, tags-word}
 use Rattle.bits.proofs.BitLaws.{mask-like}
+use Rattle.page.specs.Page.{Writes}
 use Rattle.sets.specs.Sets.{complement, pair-set}
+use Rattle.page.proofs.PageLaws.{then, as-words}
 use Rattle.sets.proofs.SetLaws.{few-pairs, pairs-mask}
 use Rattle.join_alike.specs.Alike.{Joinable}
 use Rattle.join_rules.specs.Written.{joint-words}
@@ -46,13 +48,15 @@ swapped-code {s} t e f =
     let all : slice 4 (length s) s ≡ drop 4 s = ap (drop 4) (take-length s) in
     rw (all, e) (ap (λ (n : ℕ). 1 ∷ t .states ∷ n % W ∷ n / W ∷ drop 4 (sheet-words t)) f)
 
-pub swapped-words : {s : List ℕ} → Passes s → {x k r : ℕ} → x ≡ getD s 2 0 + getD s 3 0 * W → k ≡ getD s 1 0 → r ≡ complement x k
-    → slice 0 2 s ++ ((r % W ∷ r / W ∷ []) ++ slice 4 (length s) s) ≡ sheet-words (swapped (sheet-in s))
+pub swapped-written : {s : List ℕ} → Passes s → {x k r : ℕ} → x ≡ getD s 2 0 + getD s 3 0 * W → k ≡ getD s 1 0 → r ≡ complement x k
+    → {l l₁ l₂ l₃ : List ℕ} {i i₁ i₂ i₃ : ℕ} → Writes l i (slice 0 2 s) l₁ i₁ → Writes l₁ i₁ (r % W ∷ r / W ∷ []) l₂ i₂
+    → Writes l₂ i₂ (slice 4 (length s) s) l₃ i₃ → Writes l i (sheet-words (swapped (sheet-in s))) l₃ i₃
 unfolding swapped
-swapped-words {s} ok ex ek er =
+swapped-written {s} ok ex ek er begun marked rest =
     let t = sheet-in s in
     let states = ap₂ complement (ex ∙ final-words ok) (ek ∙ states-word ok) in
-    swapped-code t (coded ok) (er ∙ states ∙ turned (t .states) (has (t .final)) (in-range ok .few-states))
+    let finals = er ∙ states ∙ turned (t .states) (has (t .final)) (in-range ok .few-states) in
+    as-words (swapped-code t (coded ok) finals) (then begun (then marked rest))
 
 -- ---- join: the words before the rules
 
@@ -78,14 +82,17 @@ module _ {u v : List ℕ} (h : BothPass u v) where
       ∙ few-pairs (s .states) (t .states) (mask (s .states) (has (s .final))) (mask (t .states) (has (t .final))) (h .few .few)
       ∙ pairs-mask (in-range (h .first) .final) (in-range (h .second) .final) (h .few .some-T)
 
-  pub head-made : {p q set g n : ℕ} → p ≡ getD u 1 0 → q ≡ getD v 1 0 → set ≡ final-in u v → g ≡ getD u 4 0
-      → slice 0 2 (1 ∷ p * q ∷ []) ++ ((set % W ∷ set / W ∷ []) ++ slice 0 2 (g ∷ n ∷ [])) ≡ head-words u v n
+  pub head-written : {p q set g n : ℕ} → p ≡ getD u 1 0 → q ≡ getD v 1 0 → set ≡ final-in u v → g ≡ getD u 4 0
+      → {l l₁ l₂ l₃ : List ℕ} {i i₁ i₂ i₃ : ℕ} → Writes l i (slice 0 2 (1 ∷ p * q ∷ [])) l₁ i₁
+      → Writes l₁ i₁ (set % W ∷ set / W ∷ []) l₂ i₂ → Writes l₂ i₂ (slice 0 2 (g ∷ n ∷ [])) l₃ i₃ → Writes l i (head-words u v n) l₃ i₃
   unfolding head-words joint
-  head-made ep eq es eg = rw (states-product ep eq, es, eg ∙ tags-word (h .first))
+  head-written ep eq es eg begun marked rest =
+      as-words (rw (states-product ep eq, es, eg ∙ tags-word (h .first))) (then begun (then marked rest))
 
 pub both-pass : {u i v j : List ℕ} → Joinable u i v j → BothPass u v
 both-pass h = record { first = h .first .sheet; second = h .second .sheet; few = h .few }
 
-pub joint-made : {u i v j : List ℕ} {n : ℕ} → WithinLimits u i v j n → head-words u v n ++ joint-words u v ≡ sheet-words (joint-in u v)
+pub joint-written : {u i v j : List ℕ} {n : ℕ} → WithinLimits u i v j n → {l l₁ l₂ : List ℕ} {k k₁ k₂ : ℕ}
+    → Writes l k (head-words u v n) l₁ k₁ → Writes l₁ k₁ (joint-words u v) l₂ k₂ → Writes l k (sheet-words (joint-in u v)) l₂ k₂
 unfolding head-words sheet-words set-words joint
-joint-made {u} {v = v} h = ap (λ (m : ℕ). head-words u v m ++ joint-words u v) (h .number)
+joint-written {u} {v = v} h head rules = as-words (ap (λ (m : ℕ). head-words u v m ++ joint-words u v) (h .number)) (then head rules)

@@ -1,5 +1,4 @@
 -- `tally_row` meets its contract. The loop keeps: what is tallied, and what the rules from j on make, is the whole row.
-use mathlib.Core.Path.{_≡_}
 use Prim.Native.Nat.{_-_}
 use native.Mathlib.Omega.{arith}
 use Rattle.join_alike.proofs.AlikeLaws.{InRow, row-from, row-begun, row-alike, row-next, row-done}
@@ -36,14 +35,13 @@ tally-row-spec =
     (λ c κs. search (pair-room, needs))
     (λ c κs. search needs)
     (λ c.
-    let (_, _, later) = row-next (c .before .before .before .before .before .loop .inv .0)
-    (c .before .before .before .before .loop-test .taken) (c .before .before .before .spot-of .ensures) (c .next-alike .ensures) in
-    omega (arith, later, c .before .before .before .before .loop-test .taken))
+    let found = c .before .before .before in
+    let walk = found .before .before .loop .inv .0 in
+    omega (arith, row-next walk (found .before .loop-test .taken) (found .spot-of .ensures) (c .next-alike .ensures) .2))
     (λ c.
-    let (walk, next, later) = row-next (c .before .before .before .before .before .loop .inv .0)
-    (c .before .before .before .before .loop-test .taken) (c .before .before .before .spot-of .ensures) (c .next-alike .ensures) in (
-      walk,
-      tally-more (c .before .before .before .before .before .loop .inv .1) next (c .before .before .tally-pair .ensures)
-          (c .before .with-more .ensures .0) (c .before .with-more .ensures .1),
-    ))
+    let found = c .before .before .before in
+    let loop = found .before .before .loop in
+    let (walk, next, _) = row-next (loop .inv .0) (found .before .loop-test .taken) (found .spot-of .ensures) (c .next-alike .ensures) in
+    let (rules, place) = c .before .with-more .ensures in
+    (walk, tally-more (loop .inv .1) next (c .before .before .tally-pair .ensures) rules place))
     (λ c. search (tally-done, row-done, needs)))

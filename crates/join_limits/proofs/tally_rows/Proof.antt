@@ -1,5 +1,4 @@
 -- `tally_rows` meets its contract. The loop keeps: what is tallied, and what S's rules from i on make, are all joint rules.
-use mathlib.Core.Path.{refl}
 use Prim.Native.Nat.{_-_}
 use native.Mathlib.Omega.{arith}
 use Rattle.model.specs.Compose.{joint-rules}
@@ -29,13 +28,11 @@ tally-rows-spec =
     (λ c. search (tally-many, needs))
     (λ c κs. search needs)
     (λ c κs. search (row-here, needs))
-    (λ c κs. omega (
-      arith,
-      c .before .before .if1 .left,
-      row-small
-          (row-here (c .before .before .before .before .before .loop .inv .0) (c .before .before .before .before .loop-test .taken)
-          (c .before .spot-of .ensures)) (c .tally-row .ensures),
-    ))
+    (λ c κs.
+    let found = c .before in
+    let test = found .before .before .before in
+    let row = row-here (test .before .loop .inv .0) (test .loop-test .taken) (found .spot-of .ensures) in
+    omega (arith, found .before .if1 .left, row-small row (c .tally-row .ensures)))
     (λ c. search needs)
     (λ c. search needs)
     (λ c. search (rows-next, tally-more, needs))

@@ -5,11 +5,11 @@ use Prim.Native.Nat.{_-_}
 use native.Mathlib.Omega.{arith}
 use Rattle.model.specs.Sheet.{rule-words}
 use Rattle.model.specs.Compose.{of-pairs}
-use Rattle.page.proofs.PageLaws.{Left, begun, more, done, kept}
+use Rattle.page.proofs.PageLaws.{Left, begun, done, kept}
 use Rattle.join_alike.specs.Alike.{sizes-in}
 use Rattle.join_alike.proofs.AlikeLaws.{InRow, row-from, row-begun, row-alike, row-next}
 use Rattle.join_rules.specs.Written.{row-words}
-use Rattle.join_rules.proofs.RuleLaws.{row-words-next, row-words-done, pair-few}
+use Rattle.join_rules.proofs.RuleLaws.{row-written, row-words-done, pair-few}
 use borrow.Author.Needs.{needs}
 use Rattle.join_rules.proofs.put_row.Statement.{statement}
 use Rattle.join_rules.proofs.put_row.Tie as tie
@@ -43,33 +43,16 @@ put-row-spec =
     (after-wide .wide .ensures) (c .first-alike .ensures .0) (c .first-alike .ensures .1) in
     (walk, begun (ap (flatMap (rule-words (of-pairs (sizes-in _ _)))) (sym all))))
     (λ c κs. search needs)
-    (λ c κs.
-    let after-spot-of = c .before in
-    let after-loop-test = after-spot-of .before in
-    let after-loop = after-loop-test .before in
-    let start = after-loop .before .before .before .before .before .before .before .before .before in
-    let walk = after-loop .loop .inv .0 in (
-      row-alike walk (after-loop-test .loop-test .taken) (after-spot-of .spot-of .ensures),
-      pair-few walk
-          (after-loop-test .loop-test .taken) (after-spot-of .spot-of .ensures) (start .pre .1),
-    ))
+    (λ c κs. (search (row-alike, needs), search (pair-few, needs)))
     (λ c κs. search needs)
     (λ c.
-    let after-spot-of = c .before .before .before .before .before in
-    let after-loop-test = after-spot-of .before in
-    let after-loop = after-loop-test .before in
-    let (_, _, later) = row-next (after-loop .loop .inv .0) (after-loop-test .loop-test .taken) (after-spot-of .spot-of .ensures)
-    (c .next-alike .ensures) in
-    omega (arith, later, after-loop-test .loop-test .taken))
+    let found = c .before .before .before .before .before in
+    let walk = found .before .before .loop .inv .0 in
+    omega (arith, row-next walk (found .before .loop-test .taken) (found .spot-of .ensures) (c .next-alike .ensures) .2))
     (λ c.
-    let after-put-pair = c .before .before .before in
-    let after-spot-of = after-put-pair .before .before in
-    let after-loop-test = after-spot-of .before in
-    let after-loop = after-loop-test .before in
-    let (walk, _, _) = row-next (after-loop .loop .inv .0) (after-loop-test .loop-test .taken) (after-spot-of .spot-of .ensures)
-    (c .next-alike .ensures) in
-    let next = row-words-next (after-loop .loop .inv .0) (after-loop-test .loop-test .taken) (after-spot-of .spot-of .ensures)
-    (c .next-alike .ensures) in
-    (walk, more (after-loop .loop .inv .1) next (after-put-pair .put-pair .ensures)))
-    (λ c. kept (c .before .loop .inv .1))
-    (λ c. done (c .before .loop .inv .1) (row-words-done (c .before .loop .inv .0) (c .loop-test .left))))
+    let found = c .before .before .before .before .before in
+    let loop = found .before .before .loop in
+    row-written (loop .inv .0) (found .before .loop-test .taken) (found .spot-of .ensures) (c .next-alike .ensures) (loop .inv .1)
+    (c .before .before .before .put-pair .ensures))
+    (λ c. search (kept, needs))
+    (λ c. search (done, row-words-done, needs)))

@@ -1,8 +1,6 @@
 -- `put_rules` meets its contract. The loop keeps: what is written, and the words of S's rules from i on, are those of all joint rules.
-use mathlib.Core.Path.{refl}
 use mathlib.Core.List.{flatMap}
 use Prim.Native.Nat.{_-_}
-use native.Mathlib.Omega.{arith}
 use Rattle.model.specs.Sheet.{rule-words}
 use Rattle.model.specs.Compose.{of-pairs}
 use Rattle.page.proofs.PageLaws.{Left, begun, more, done, full, kept}
@@ -31,36 +29,13 @@ put-rules-spec =
     μ-loop
     (λ c κs. search needs)
     (λ c κs. search needs)
-    (λ c.
-    let after-at = c .before in
-    let start = after-at .before .before .before .before .before .before in
-    (rows-begun (start .pre .0) (after-at .at .ensures) (c .wide .ensures), begun refl))
-    (λ c. kept (c .before .before .loop .inv .1))
-    (λ c. full (c .before .before .loop .inv .1) (c .if1 .taken))
+    (λ c. search (rows-begun, begun, needs))
+    (λ c. search (kept, needs))
+    (λ c. search (full, needs))
     (λ c κs. search needs)
-    (λ c κs.
-    let after-spot-of = c .before in
-    let after-loop-test = after-spot-of .before .before in
-    let after-loop = after-loop-test .before in
-    let start = after-loop .before .before .before .before .before .before .before .before in
-    let walk = after-loop .loop .inv .0 in (
-      row-here walk (after-loop-test .loop-test .taken) (after-spot-of .spot-of .ensures),
-      row-few walk (after-loop-test .loop-test .taken)
-          (after-spot-of .spot-of .ensures) (start .pre .1),
-    ))
+    (λ c κs. (search (row-here, needs), search (row-few, needs)))
     (λ c. search needs)
-    (λ c.
-    let after-loop-test = c .before .before .before .before .before .before in
-    omega (arith, after-loop-test .loop-test .taken))
-    (λ c.
-    let after-put-row = c .before .before in
-    let after-spot-of = after-put-row .before .before in
-    let after-loop-test = after-spot-of .before .before in
-    let after-loop = after-loop-test .before in (
-      after-loop .loop .inv .0,
-      more (after-loop .loop .inv .1)
-          (rows-words-next (after-loop .loop .inv .0) (after-loop-test .loop-test .taken) (after-spot-of .spot-of .ensures))
-          (after-put-row .put-row .ensures),
-    ))
-    (λ c. kept (c .before .loop .inv .1))
-    (λ c. done (c .before .loop .inv .1) (rows-words-done (c .before .loop .inv .0) (c .loop-test .left))))
+    (λ c. search needs)
+    (λ c. search (rows-words-next, more, needs))
+    (λ c. search (kept, needs))
+    (λ c. search (done, rows-words-done, needs)))

@@ -10,4 +10,4 @@ joint-length-spec =
     (tie.spec
     (λ c. search needs)
     (λ c κs. search needs)
-    (λ c. counted (c .before .put-joint .ensures)))
+    (λ c. search (counted, needs)))
