@@ -127,7 +127,7 @@ pub fn find(line: &[u8], words: &Store, top: usize, name: &[u8]) -> usize {
     let mut end = top;
     while 1 < end {
         let first = stored(words, end - 2) as usize;
-        if names::same_bytes(bytes_of(line, first, word_end(line, first)), name) {
+        if offsets::same_bytes(bytes_of(line, first, word_end(line, first)), name) {
             return end;
         }
         let below = stored(words, end - 1) as usize;

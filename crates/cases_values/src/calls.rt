@@ -28,7 +28,16 @@ const CALLS: [u8; 68] =
 
 // The call of a name, 0 where there is none.
 pub fn call_of(name: &[u8]) -> usize {
-    names::find(&CALLS, name)
+    let mut tags = [0usize; tags::ENTRIES];
+    let count = offsets::index(&CALLS, &mut tags);
+    let mut call = 0;
+    while call < count {
+        call += 1;
+        if offsets::same_bytes(tags::name_of(&CALLS, &tags, call), name) {
+            return call;
+        }
+    }
+    0
 }
 
 // How many values a call takes; one, where a value is named.

@@ -134,7 +134,7 @@ fn stem(word: &[u8]) -> usize {
     if n < 6 {
         return n;
     }
-    if names::same_bytes(bytes_of(word, n - 6, n), b".bytes") {
+    if offsets::same_bytes(bytes_of(word, n - 6, n), b".bytes") {
         return n - 6;
     }
     n

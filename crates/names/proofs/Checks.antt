@@ -1,31 +1,46 @@
 -- The check of a name list, line by line.
 use mathlib.Core.Path.{_≡_, refl, sym, ap, _∙_}
 use mathlib.Core.Logic.{_≢_}
-use mathlib.Core.Bool.{true, false, _&&_}
+use mathlib.Core.Bool.{Bool, true, false, cond, _&&_}
 use mathlib.Core.List.{List, [], _∷_}
-use Prim.Native.Nat.{ℕ, suc, _+_, _-_, _≤_, _<_}
+use Prim.Native.Nat.{ℕ, zero, suc, _+_, _-_, _≤_, _<_}
 use native.Mathlib.Numerals.{add-one}
 use native.Mathlib.Omega.{arith}
 use native.Mathlib.Decide.{ℕ-discrete}
 use lib.Dec.{eqb, leb}
 use lib.ListN.{length, getD, take, drop, drop-of-length-le}
 use lib.Seq.{drop-cons, length-take-le, getD-take}
-use borrow.Author.Tests.{lt-ltb, le-ltb, le-leb, lt-leb, eq-eqb, ne-eqb}
+use borrow.Author.Tests.{lt-ltb, le-ltb, eq-eqb, ne-eqb}
 use Rattle.model.specs.Answers.{Checked, passes, refuses, said, said-refusal, answer-of}
 use Rattle.model.specs.declared.Answer.the-variants.{Count, Error}
 use Rattle.model.specs.declared.Refusal.the-variants.{NameList}
-use Rattle.model.specs.Bytes.{is-name}
+use Rattle.model.specs.Bytes.{is-name, same-bytes}
 use Rattle.model.specs.Calls.{names-said}
 use Rattle.model.specs.Names.{lines, bare, name-of, number-from, good-line, lines-checked, names-of}
 use Rattle.model.proofs.Tests.{eqb-like}
-use Rattle.model.proofs.NameLaws.{number-at}
-use Rattle.names.specs.Lines.{line, start-of, line-count, Indexed, name-by}
-use Rattle.names.proofs.Parts.{part-last}
-use Rattle.names.proofs.LineLaws.{Begins, start-next, begins-some, begins-none, begins-at, number-some}
-use Rattle.names.proofs.IndexLaws.{indexed-cut, indexed-line, name-is}
-use Rattle.names.proofs.ChainLaws.{Found}
+use Rattle.model.proofs.NameLaws.{same-bytes-refl, number-at}
+use Rattle.offsets.specs.Lines.{line, start-of, line-count, Indexed}
+use Rattle.offsets.proofs.LineLaws.{Begins, start-next, begins-some, begins-none, begins-at}
+use Rattle.offsets.proofs.IndexLaws.{indexed-last}
+use Rattle.tags.specs.Tables.{name-by, first-of, bucket, along, linked, TableOf}
+use Rattle.tags.proofs.TagLaws.{name-is}
+use Rattle.tags.proofs.ChainLaws.{Found, found}
+use Rattle.tags.proofs.TableLaws.{table-more}
+use Rattle.name_line.specs.Named.{named-line}
 
 -- ---- a line
+
+-- a name that a line holds has a number among the lines
+number-some : (k : ℕ) (name : List ℕ) (ls : List (List ℕ)) (j : ℕ) → j < length ls → bare
+    (getD ls j []) ≡ name → number-from k name ls ≢ 0
+unfolding number-from
+number-some k name [] j h e = absurd (omega arith)
+number-some k name (l ∷ ls) zero h e = rw (e, same-bytes-refl name) (λ z. absurd (omega arith))
+number-some k name (l ∷ ls) (suc j) h e = by (same-bytes (bare l) name) (number-some (suc k) name ls j (omega arith) e)
+  where
+    by : (b : Bool) → number-from (suc k) name ls ≢ 0 → cond b (suc k) (number-from (suc k) name ls) ≢ 0
+    by true ih = λ z. absurd (omega arith)
+    by false ih = ih
 
 -- a line among the first k holds a name where a tag of it was found
 module _ {list name : List ℕ} {k r : ℕ} (h : k ≤ length (lines list)) (f : Found list name k r) where
@@ -56,43 +71,51 @@ module _ {list name : List ℕ} {k r : ℕ} (h : k ≤ length (lines list)) (f :
           let m : suc j - 1 ≡ j = omega arith in
           absurd (f .none z (suc j) (omega arith) inside (rw (m, ← first-lines j inside) e))
 
--- `name` is the name on line k
-module _ (list starts : List ℕ) (index : Indexed list starts) (k : ℕ) (h : k < line-count list) {name : List ℕ}
-    (named : name ≡ name-by list starts (k + 1)) where
-  byte-after : getD (line list k) (length (line list k) - 1) 0 ≡ getD list (getD starts (k + 1) 0 - 1) 0
-  byte-after =
-      let c = indexed-cut list starts index k h in
-      ap (λ (l : List ℕ). getD l (length l - 1) 0) (sym (indexed-line list starts index k h)) ∙ part-last list (getD starts k 0)
-      (getD starts (k + 1) 0) (c .after) (c .within)
+regroup : (a b c d : Bool) → (a && (b && (c && d))) ≡ ((a && (b && c)) && d)
+regroup true true c d = refl
+regroup true false c d = refl
+regroup false b c d = refl
 
-  pub own-name : name ≡ name-of list (k + 1)
-  own-name = named ∙ name-is list starts index (k + 1) (omega arith) (omega arith)
+-- `name` is the name on line k, by a table of the tags before
+module _ {list table : List ℕ} {k : ℕ} (made : TableOf list table k) (h : k < line-count list) {name : List ℕ}
+    (named : name ≡ name-by list table (k + 1)) where
+  own-name : name ≡ name-of list (k + 1)
+  own-name = named ∙ name-is list table (k + 1) (made .index) (omega arith) (omega arith)
 
   name-there : bare (line list k) ≡ name
   unfolding name-of
   name-there = let m : k + 1 - 1 ≡ k = omega arith in sym (rw m at own-name)
 
-  good-is :
-      good-line (lines list) k (line list k)
-      ≡ (leb (length name) 24
-      && (eqb (getD list (getD starts (k + 1) 0 - 1) 0) 10
-      && (is-name name && eqb (number-from 0 name (take k (lines list))) 0)))
-  unfolding good-line
-  good-is = rw (lt-ltb k 64 (omega arith), name-there, byte-after)
+  good-is : good-line (lines list) k (line list k) ≡
+      (named-line list (getD table (k + 1) 0) name && eqb (number-from 0 name (take k (lines list))) 0)
+  unfolding good-line named-line
+  good-is = rw (lt-ltb k 64 (omega arith), name-there, indexed-last list table (made .index) k h)
+      (regroup (leb (length name) 24) (eqb (getD list (getD table (k + 1) 0 - 1) 0) 10) (is-name name)
+      (eqb (number-from 0 name (take k (lines list))) 0))
 
-  pub good-long : 24 < length name → good-line (lines list) k (line list k) ≡ false
-  good-long i = good-is ∙ rw (lt-leb _ _ i)
+  -- what is told of the line, and the table then
+  abbrev Told : Bool → List ℕ → Type 0
+  Told good after = (good ≡ good-line (lines list) k (line list k)) × TableOf list after (cond good (k + 1) k)
 
-  module _ (short : length name ≤ 24) where
-    pub good-open : getD list (getD starts (k + 1) 0 - 1) 0 ≢ 10 → good-line (lines list) k (line list k) ≡ false
-    good-open e = good-is ∙ rw (le-leb _ _ short, ne-eqb _ _ e)
+  module _ {well : Bool} (asked : well ≡ named-line list (getD table (k + 1) 0) name) where
+    pub told-unnamed : well ≡ false → Told false table
+    told-unnamed e = (sym (good-is ∙ rw (sym asked ∙ e)), made)
 
-    module _ (closed : getD list (getD starts (k + 1) 0 - 1) 0 ≡ 10) where
-      pub good-unnamed : is-name name ≡ false → good-line (lines list) k (line list k) ≡ false
-      good-unnamed e = good-is ∙ rw (le-leb _ _ short, eq-eqb _ _ closed, e)
+    module _ (e : well ≡ true) {chain r : ℕ} (is : chain ≡ bucket name) (small : chain < 64)
+        (along-is : r ≡ along list table name 64 (first-of table chain)) where
+      good-by : good-line (lines list) k (line list k) ≡ eqb r 0
+      good-by = good-is ∙ rw (sym asked ∙ e, number-is (omega arith) (found made (omega arith) name is small along-is))
 
-      pub good-named : is-name name ≡ true → {r : ℕ} → Found list name k r → good-line (lines list) k (line list k) ≡ eqb r 0
-      good-named e f = good-is ∙ rw (le-leb _ _ short, eq-eqb _ _ closed, e, number-is (omega arith) f)
+      pub told-repeated : r ≢ 0 → Told false table
+      told-repeated n = (sym (good-by ∙ ne-eqb r 0 n), made)
+
+      pub told-entered : r ≡ 0 → {after : List ℕ} → after ≡ linked table chain (k + 1) → Told true after
+      told-entered z l = (sym (good-by ∙ eq-eqb r 0 z), table-more made (omega arith) (is ∙ ap bucket own-name) small l)
+
+-- the table after a line that is told so
+pub after-line : (list table : List ℕ) (k : ℕ) {good b : Bool} → good ≡ b → TableOf list table (cond good (k + 1) k)
+    → TableOf list table (cond b (k + 1) k)
+after-line list table k e t = rw e at t
 
 -- ---- line by line
 

@@ -5,13 +5,10 @@ ghost use lib.ListN.{length};
 ghost use Rattle.model.specs.Answers.{passes};
 ghost use Rattle.model.specs.Names.{names-of};
 ghost use Rattle.chars.specs.Table.{table};
-ghost use Rattle.names.specs.Lines.{line-count};
-ghost use Rattle.names.specs.Chains.{Chained};
+ghost use Rattle.offsets.specs.Lines.{line-count};
 ghost use Rattle.read_names.specs.Listing.{Listing};
 ghost use Rattle.read_pass.specs.Reading.{AtStartTag, AtToken, Begins, Goes, Scanned, Ends};
 use model::Answer;
-use read_names::PerBucket;
-use read_names::PerName;
 use read_names::chain;
 use read_nodes::Words;
 use read_runs::Classes;
@@ -27,6 +24,7 @@ use read_scan::stopped;
 use read_tags::end_tag;
 use read_tags::start_tag;
 use read_texts::text_node;
+use tags::Table;
 
 // The number of nodes, whose words go to `words`; or the first of the refusals 2 to 7.
 pub fn scan_form(list: &[u8], text: &[u8], words: &mut Words) -> Answer
@@ -35,25 +33,14 @@ pub fn scan_form(list: &[u8], text: &[u8], words: &mut Words) -> Answer
     ensures { λ r. ⌜ Scanned (now (list .entry)) (now (text .entry)) (now (words .exit)) r ⌝ }
 {
     let classes = chars::classes();
-    let mut lines = [0usize; names::MOST_NAMES + 1];
-    let count = names::index(list, &mut lines);
-    let mut heads = [0usize; names::BUCKETS];
-    let mut nexts = [0usize; names::MOST_NAMES + 1];
-    chain(list, &lines, count, &mut heads, &mut nexts);
+    let mut tags = [0usize; tags::ENTRIES];
+    let count = offsets::index(list, &mut tags);
+    chain(list, count, &mut tags);
     let first = root(&classes, text);
     if first.refused != NONE {
         return Answer::Error(refusal_of(first));
     }
-    element(
-        &classes,
-        list,
-        &lines,
-        &heads,
-        &nexts,
-        text,
-        first.scan,
-        words,
-    )
+    element(&classes, list, &tags, text, first.scan, words)
 }
 
 // White, up to the root's start tag. No list is looked at, so the promise is for any list, and any words.
@@ -85,22 +72,19 @@ fn root(classes: &Classes, text: &[u8]) -> Step
 fn element(
     classes: &Classes,
     list: &[u8],
-    lines: &PerName,
-    heads: &PerBucket,
-    nexts: &PerName,
+    tags: &Table,
     text: &[u8],
     start: Scan,
     words: &mut Words,
 ) -> Answer
     requires { ⌜ now classes ≡ table ⌝ }
-    requires { ⌜ Listing (now list) (now lines) ⌝ }
-    requires { ⌜ Chained (now list) (now heads) (now nexts) (line-count (now list)) ⌝ }
+    requires { ⌜ Listing (now list) (now tags) ⌝ }
     requires { ⌜ AtStartTag (now list) (now text) (now words) start ⌝ }
     ensures { λ r. ⌜ Scanned (now (list .entry)) (now (text .entry)) (now (words .exit)) r ⌝ }
 {
     let mut s = start;
     loop {
-        let step = token(classes, list, lines, heads, nexts, text, s, words);
+        let step = token(classes, list, tags, text, s, words);
         if step.refused != NONE {
             return Answer::Error(refusal_of(step));
         }
@@ -115,16 +99,13 @@ fn element(
 fn token(
     classes: &Classes,
     list: &[u8],
-    lines: &PerName,
-    heads: &PerBucket,
-    nexts: &PerName,
+    tags: &Table,
     text: &[u8],
     s: Scan,
     words: &mut Words,
 ) -> Step
     requires { ⌜ now classes ≡ table ⌝ }
-    requires { ⌜ Listing (now list) (now lines) ⌝ }
-    requires { ⌜ Chained (now list) (now heads) (now nexts) (line-count (now list)) ⌝ }
+    requires { ⌜ Listing (now list) (now tags) ⌝ }
     requires { ⌜ AtToken (now list) (now text) (now words) s ⌝ }
     ensures { λ r. ⌜ Goes (now (list .entry)) (now (text .entry)) (now (words .exit)) (s .at) r ⌝ }
 {
@@ -134,19 +115,10 @@ fn token(
     if class == chars::LESS {
         let next = class_at(classes, text, at + 1);
         if next == chars::LETTER {
-            return start_tag(
-                classes,
-                list,
-                lines,
-                heads,
-                nexts,
-                text,
-                moved(s, at),
-                words,
-            );
+            return start_tag(classes, list, tags, text, moved(s, at), words);
         }
         if next == chars::SLASH {
-            return end_tag(classes, list, lines, text, moved(s, at + 2), words);
+            return end_tag(classes, list, tags, text, moved(s, at + 2), words);
         }
         return stopped(next, at + 1);
     }

@@ -4,9 +4,10 @@ use mathlib.Core.List.{List}
 use Prim.Native.Nat.{ℕ}
 use Rattle.model.specs.Answers.{passes}
 use Rattle.model.specs.Names.{names-of}
-use Rattle.names.specs.Lines.{line-count, Indexed}
+use Rattle.offsets.specs.Lines.{line-count}
+use Rattle.tags.specs.Tables.{TableOf}
 
--- the list passes its check, and is indexed
-pub record Listing (list lines : List ℕ) : Type 0 where
+-- the list passes its check, and the table has all of its tags
+pub record Listing (list table : List ℕ) : Type 0 where
   pub checked : names-of list ≡ passes (line-count list)
-  pub indexed : Indexed list lines
+  pub made : TableOf list table (line-count list)

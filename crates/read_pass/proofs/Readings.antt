@@ -24,7 +24,8 @@ use Rattle.model.proofs.Scan.{scan-is}
 use Rattle.model.proofs.Tests.{Yes, never, or-left, or-right, or-cases, same, eqb-yes}
 use Rattle.model.proofs.NameLaws.{bytes-same, tag-few}
 use Rattle.model.specs.Text.{state, an-open}
-use Rattle.names.specs.Lines.{line-count, name-by}
+use Rattle.offsets.specs.Lines.{line-count}
+use Rattle.tags.specs.Tables.{name-by}
 use Rattle.read_names.specs.Listing.{Listing}
 use Rattle.read_nodes.specs.Packed.{packed, unpacked, closed-words, closed-scan, Holds, outermost, inside}
 use Rattle.read_scan.specs.Scans.{at-offset, stop-number, refusal-by, on-step, refused-step}
@@ -188,7 +189,7 @@ module _ {list text words : List ℕ} {s : Scan} (r : ReadsAt list text words st
 
 -- ---- a start tag
 
-module _ {list lines text words : List ℕ} {s : Scan} (listing : Listing list lines) (a : AtStartTag list text words s) where
+module _ {list table text words : List ℕ} {s : Scan} (listing : Listing list table) (a : AtStartTag list text words s) where
   place-leads : (place : Place) → (place ≡ before) ⊎ (place ≡ blank) → (q : Place) × Leads place q
   place-leads place (inl e) = (root-open, rw e at-root)
   place-leads place (inr e) = (tag-open, rw e in-content)
@@ -290,8 +291,8 @@ module _ {list text words : List ℕ} {s : Scan} (r : ReadsAt list text words en
         (stuck-end-open list text (r .content) (r .opened) (s .nodes) (s .at) first (sym told-first) h)
 
   -- the name, compared with that of the innermost open element
-  module _ {lines : List ℕ} (listing : Listing list lines) (name : List ℕ)
-      (open-name : name ≡ name-by list lines (getD words (s .top) 0 % 65536)) where
+  module _ {table : List ℕ} (listing : Listing list table) (name : List ℕ)
+      (open-name : name ≡ name-by list table (getD words (s .top) 0 % 65536)) where
     pub top-named : Yes (is-name name)
     top-named = rw open-name (named-well listing _ top-tag-some top-tag-listed)
 

@@ -12,7 +12,7 @@ use Rattle.model.specs.declared.Answer.{Answer}
 use Rattle.model.specs.declared.Answer.the-variants.{Count, Error}
 use Rattle.model.specs.Text.{scan}
 use Rattle.model.specs.Text.{state}
-use Rattle.names.specs.Lines.{line-count}
+use Rattle.offsets.specs.Lines.{line-count}
 use Rattle.read_nodes.specs.Packed.{all-unpacked, Holds}
 use Rattle.read_runs.specs.Runs.{first-class}
 use Rattle.read_scan.specs.Scans.{refusal-by}

@@ -4,13 +4,9 @@ ghost use Prim.Native.Nat.{_≤_, _<_};
 ghost use lib.ListN.{length};
 ghost use Rattle.model.specs.Text.{start-gap, end-open};
 ghost use Rattle.chars.specs.Table.{table};
-ghost use Rattle.names.specs.Lines.{line-count};
-ghost use Rattle.names.specs.Chains.{Chained};
 ghost use Rattle.read_names.specs.Listing.{Listing};
 ghost use Rattle.read_pass.specs.Reading.{ReadsAt, AtStartTag, Goes, GoesFrom};
 use layout::MOST_NODES;
-use read_names::PerBucket;
-use read_names::PerName;
 use read_names::find;
 use read_names::named;
 use read_nodes::FIELD;
@@ -31,24 +27,22 @@ use read_scan::moved;
 use read_scan::on;
 use read_scan::refused;
 use read_scan::stopped;
+use tags::Table;
 
-// A form's elements lie at most so deep.
+// The most elements that lie one in another.
 const MOST_DEPTH: usize = layout::MOST_LEVELS as usize;
 
 // A start tag, from its < on.
 pub fn start_tag(
     classes: &Classes,
     list: &[u8],
-    lines: &PerName,
-    heads: &PerBucket,
-    nexts: &PerName,
+    tags: &Table,
     text: &[u8],
     s: Scan,
     words: &mut Words,
 ) -> Step
     requires { ⌜ now classes ≡ table ⌝ }
-    requires { ⌜ Listing (now list) (now lines) ⌝ }
-    requires { ⌜ Chained (now list) (now heads) (now nexts) (line-count (now list)) ⌝ }
+    requires { ⌜ Listing (now list) (now tags) ⌝ }
     requires { ⌜ AtStartTag (now list) (now text) (now words) s ⌝ }
     ensures { λ r. ⌜ Goes (now (list .entry)) (now (text .entry)) (now (words .exit)) (s .at) r ⌝ }
 {
@@ -61,7 +55,7 @@ pub fn start_tag(
     }
     let from = at + 1;
     let end = skip(classes, text, from, chars::LETTER, chars::HYPHEN);
-    let tag = find(list, lines, heads, nexts, &text[from..end]);
+    let tag = find(list, tags, &text[from..end]);
     if tag == 0 {
         return refused(UNKNOWN_NAME, from);
     }
@@ -102,20 +96,20 @@ fn start_tag_end(classes: &Classes, text: &[u8], s: Scan, words: &mut Words) -> 
 pub fn end_tag(
     classes: &Classes,
     list: &[u8],
-    lines: &PerName,
+    tags: &Table,
     text: &[u8],
     s: Scan,
     words: &mut Words,
 ) -> Step
     requires { ⌜ now classes ≡ table ⌝ }
-    requires { ⌜ Listing (now list) (now lines) ⌝ }
+    requires { ⌜ Listing (now list) (now tags) ⌝ }
     requires { ⌜ (1 ≤ s .depth) × ReadsAt (now list) (now text) (now words) end-open s ⌝ }
     ensures { λ r. ⌜ Goes (now (list .entry)) (now (text .entry)) (now (words .exit)) (s .at) r ⌝ }
 {
     let from = s.at;
     let innermost = s.top;
     let tag = (words[innermost] % FIELD) as usize;
-    let name = names::name_of(list, lines, tag);
+    let name = tags::name_of(list, tags, tag);
     if !named(classes, text, from, name) {
         let first = class_at(classes, text, from);
         if first != chars::LETTER {

@@ -20,8 +20,8 @@ use Rattle.model.proofs.Answered.{refusal-says}
 use Rattle.model.proofs.CheckLaws.{bind-passes}
 use Rattle.model.proofs.TreeLaws.{length-wordsD}
 use Rattle.model.proofs.Scan.{scan-is}
-use Rattle.names.specs.Lines.{line-count}
-use Rattle.names.proofs.IndexLaws.{all-indexed}
+use Rattle.offsets.specs.Lines.{line-count}
+use Rattle.offsets.proofs.IndexLaws.{all-indexed}
 use Rattle.read_nodes.specs.Packed.{all-unpacked}
 use Rattle.read_pass.specs.Reading.{Refuses, Whole}
 

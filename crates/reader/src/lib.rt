@@ -7,7 +7,7 @@ ghost use mathlib.Core.Path.{_≡_};
 ghost use Rattle.model.specs.Answers.{said, passes};
 ghost use Rattle.model.specs.Calls.{read-said, read-tree};
 ghost use Rattle.model.specs.Names.{names-of};
-ghost use Rattle.names.specs.Lines.{line-count};
+ghost use Rattle.offsets.specs.Lines.{line-count};
 use layout::MOST_BYTES;
 use layout::MOST_NODES;
 use layout::NODE_WORDS;

@@ -5,24 +5,18 @@ use native.Mathlib.Omega.{arith}
 use borrow.Author.Needs.{needs}
 use borrow.Author.Tests.{not-true, not-false}
 use Rattle.model.specs.Names.{names-of}
-use Rattle.names.specs.Lines.{Indexed}
-use Rattle.names.specs.Chains.{Chained}
-use Rattle.names.proofs.IndexLaws.{indexed}
-use Rattle.names.proofs.ChainLaws.{chained-none}
-use Rattle.names.proofs.Checks.{checked-from, check-first, check-good, said-none, said-bad, said-many, said-passed}
+use Rattle.tags.specs.Tables.{TableOf}
+use Rattle.tags.proofs.TableLaws.{table-none}
+use Rattle.names.proofs.Checks.{checked-from, check-first, check-good, after-line, said-none, said-bad, said-many, said-passed}
 use Rattle.names.proofs.check.Statement.{statement}
 use Rattle.names.proofs.check.Tie as tie
 
 abbrev Inv-loop : tie.InvT-loop
-Inv-loop list classes starts count heads₀ nexts₀ good₀ heads nexts good =
-    (good ≤ count) × (names-of list ≡ checked-from list good) × Chained list heads nexts good
+Inv-loop list classes tags₀ count good₀ tags good =
+    (good ≤ count) × (names-of list ≡ checked-from list good) × TableOf list tags good
 
 abbrev μ-loop : tie.MeasureT-loop
-μ-loop list classes starts count heads₀ nexts₀ good₀ heads nexts good = count - good
-
-index-is : (c : tie.After-index Inv-loop μ-loop) → Indexed (c .before .before .before .before .before .args .list .now)
-    (c .index .last .1 .0)
-index-is c = indexed _ _ _ (omega arith) (c .index .ensures .1)
+μ-loop list classes tags₀ count good₀ tags good = count - good
 
 pub check-spec : {M : Type 1} → statement M
 check-spec =
@@ -32,30 +26,25 @@ check-spec =
     μ-loop
     (λ c. said-none _ (c .if1 .taken))
     (λ c κs. search needs)
+    (λ c. search needs)
     (λ c κs. search needs)
-    (λ c. (omega arith, check-first _ (c .before .before .before .if1 .left), chained-none _))
-    (λ c κs. (
-      (
-        c .before .before .before .before .before .before .before .before .classes .ensures,
-        index-is (c .before .before .before .before .before .before),
-        omega arith,
-      ),
-      c .before .before .before .before .before .loop .inv .2,
-    ))
+    (λ c. (omega arith, check-first _ (c .before .before .before .before .if1 .left), table-none _ (c .before .index .ensures .1)))
+    (λ c κs. (c .before .before .before .before .before .before .before .classes .ensures, (omega arith, c .before .before .before .loop .inv .2)))
     (λ c. omega arith)
     (λ c. omega arith)
-    (λ c. said-bad _ _ (index-is (c .before .before .before .before .before .before .before .before)) _
-    (c .before .before .before .before .before .before .before .loop .inv .1) (omega arith)
-    (sym (c .before .enter .ensures .0) ∙ not-true _ (c .if2 .taken)))
+    (λ c.
+    let bad = not-true _ (c .if2 .taken) in
+    said-bad _ _ (after-line _ _ _ bad (c .before .enter .ensures .1) .index) _ (c .before .before .before .before .before .loop .inv .1) (omega arith)
+    (sym (c .before .enter .ensures .0) ∙ bad))
     (λ c. omega arith)
     (λ c. omega arith)
-    (λ c. (
+    (λ c.
+    let good = not-false _ (c .if2 .left) in (
       omega arith,
-      c .before .before .before .before .before .before .before .loop .inv .1 ∙ check-good _ _ (omega arith)
-          (sym (c .before .enter .ensures .0) ∙ not-false _ (c .if2 .left)),
-      c .before .enter .ensures .1 (not-false _ (c .if2 .left)),
+      c .before .before .before .before .before .loop .inv .1 ∙ check-good _ _ (omega arith) (sym (c .before .enter .ensures .0) ∙ good),
+      after-line _ _ _ good (c .before .enter .ensures .1),
     ))
     (λ c. omega arith)
     (λ c. omega arith)
-    (λ c. said-many _ _ (index-is (c .before .before .before)) _ (c .before .before .loop .inv .1) (omega arith) (c .if3 .taken))
-    (λ c. said-passed _ _ (index-is (c .before .before .before)) _ (c .before .before .loop .inv .1) (omega arith) (c .if3 .left)))
+    (λ c. said-many _ _ (c .before .before .loop .inv .2 .index) _ (c .before .before .loop .inv .1) (omega arith) (c .if3 .taken))
+    (λ c. said-passed _ _ (c .before .before .loop .inv .2 .index) _ (c .before .before .loop .inv .1) (omega arith) (c .if3 .left)))

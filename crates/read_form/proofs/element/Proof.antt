@@ -9,10 +9,10 @@ use Rattle.read_form.proofs.element.Statement.{statement}
 use Rattle.read_form.proofs.element.Tie as tie
 
 abbrev Inv-loop : tie.InvT-loop
-Inv-loop classes list lines heads nexts text words₀ s₀ words s = AtToken list text words s
+Inv-loop classes list tags text words₀ s₀ words s = AtToken list text words s
 
 abbrev μ-loop : tie.MeasureT-loop
-μ-loop classes list lines heads nexts text words₀ s₀ words s = length text - s .at
+μ-loop classes list tags text words₀ s₀ words s = length text - s .at
 
 pub element-spec : {M : Type 1} → statement M
 element-spec =
@@ -20,10 +20,10 @@ element-spec =
     (tie.spec
     Inv-loop
     μ-loop
-    (λ c. inl (c .before .before .pre .1 .1 .1))
+    (λ c. inl (c .before .before .pre .1 .1))
     (λ c κs. (
       c .before .before .before .before .pre .0,
-      (c .before .before .before .before .pre .1 .0, (c .before .before .before .before .pre .1 .1 .0, c .before .loop .inv)),
+      (c .before .before .before .before .pre .1 .0, c .before .loop .inv),
     ))
     (λ c κs. search needs)
     (λ c. rw (c .refusal-of .ensures) (c .before .before .before .token .ensures .stopped (c .before .if1 .taken)))

@@ -10,7 +10,7 @@ pub token-spec : {M : Type 1} → statement M
 token-spec =
     tie.close
     (tie.spec
-    (λ c κs. (c .before .before .pre .0, token-within (c .before .before .pre .1 .1 .1) .0))
+    (λ c κs. (c .before .before .pre .0, token-within (c .before .before .pre .1 .1) .0))
     (λ c. omega (arith, c .before .past-white .ensures .1 .0))
     (λ c κs. search needs)
     (λ c κs. search needs)
@@ -18,13 +18,10 @@ token-spec =
       c .before .before .before .before .before .before .before .before .pre .0,
       (
         c .before .before .before .before .before .before .before .before .pre .1 .0,
-        (
-          c .before .before .before .before .before .before .before .before .pre .1 .1 .0,
-          rw (c .before .moved .ensures) (at-start-tag _ _ (c .before .before .before .before .before .past-white .ensures .0)
-              (c .before .before .before .before .before .past-white .ensures .1 .1) _ (c .before .before .before .class-at .ensures)
-              (c .before .before .before .before .if1 .taken) (c .before .before .if2 .taken)
-              (c .before .before .before .before .before .before .before .before .pre .1 .1 .1)),
-        ),
+        rw (c .before .moved .ensures) (at-start-tag _ _ (c .before .before .before .before .before .past-white .ensures .0)
+            (c .before .before .before .before .before .past-white .ensures .1 .1) _ (c .before .before .before .class-at .ensures)
+            (c .before .before .before .before .if1 .taken) (c .before .before .if2 .taken)
+            (c .before .before .before .before .before .before .before .before .pre .1 .1)),
       ),
     ))
     (λ c. goes-from _ _ _ (c .start-tag .result)
@@ -35,7 +32,7 @@ token-spec =
     (λ c κs. let (deep, r) = no-root-tag _ _ (c .before .before .before .before .before .before .past-white .ensures .0)
     (c .before .before .before .before .before .before .past-white .ensures .1 .1) _
     (c .before .before .before .before .class-at .ensures) (c .before .before .before .if2 .left)
-    (c .before .before .before .before .before .before .before .before .before .pre .1 .1 .1) in (
+    (c .before .before .before .before .before .before .before .before .before .pre .1 .1) in (
       c .before .before .before .before .before .before .before .before .before .pre .0,
       (
         c .before .before .before .before .before .before .before .before .before .pre .1 .0,
@@ -55,7 +52,7 @@ token-spec =
     (λ c κs. search needs)
     (λ c. let (deep, r) = no-root-tag _ _ (c .before .before .before .before .before .past-white .ensures .0)
     (c .before .before .before .before .before .past-white .ensures .1 .1) _ (c .before .before .before .class-at .ensures)
-    (c .before .before .if2 .left) (c .before .before .before .before .before .before .before .before .pre .1 .1 .1) in
+    (c .before .before .if2 .left) (c .before .before .before .before .before .before .before .before .pre .1 .1) in
     rw (c .stopped .ensures) (after-stopped (c .before .before .before .class-at .result)
     (tag-stuck r deep _ _ (c .before .before .before .before .before .past-white .ensures .0)
     (c .before .before .before .before .before .past-white .ensures .1 .1) (c .before .before .before .before .if1 .taken) _
@@ -63,14 +60,14 @@ token-spec =
     (λ c κs. search needs)
     (λ c. let (deep, r) = no-root _ _ (c .before .before .before .past-white .ensures .0)
     (c .before .before .before .past-white .ensures .1 .1) (c .before .before .if1 .left)
-    (c .before .before .before .before .before .before .pre .1 .1 .1) in rw (c .stopped2 .ensures)
+    (c .before .before .before .before .before .before .pre .1 .1) in rw (c .stopped2 .ensures)
     (after-stopped (c .before .before .before .past-white .result .class)
     (content-stuck r deep _ _ (c .before .before .before .past-white .ensures .0) (c .before .before .before .past-white .ensures .1 .1)
     (c .before .if4 .taken))))
     (λ c κs. search needs)
     (λ c κs. let (deep, r) = no-root _ _ (c .before .before .before .before .past-white .ensures .0)
     (c .before .before .before .before .past-white .ensures .1 .1) (c .before .before .before .if1 .left)
-    (c .before .before .before .before .before .before .before .pre .1 .1 .1) in (
+    (c .before .before .before .before .before .before .before .pre .1 .1) in (
       c .before .before .before .before .before .before .before .pre .0,
       rw (c .before .moved3 .ensures) (
         (omega (arith, c .before .before .before .before .past-white .ensures .1 .0), r .short),
@@ -84,7 +81,7 @@ token-spec =
     ))
     (λ c. let (deep, r) = no-root _ _ (c .before .before .before .before .before .past-white .ensures .0)
     (c .before .before .before .before .before .past-white .ensures .1 .1) (c .before .before .before .before .if1 .left)
-    (c .before .before .before .before .before .before .before .before .pre .1 .1 .1) in goes-from _ _ _ (c .text-node .result)
+    (c .before .before .before .before .before .before .before .before .pre .1 .1) in goes-from _ _ _ (c .text-node .result)
     (rw (c .before .before .moved3 .ensures) (omega (arith, c .before .before .before .before .before .past-white .ensures .1 .0)))
     (c .text-node .ensures _ (rw (c .before .before .moved3 .ensures)
     (text-there r deep _ _ (c .before .before .before .before .before .past-white .ensures .0)

@@ -3,18 +3,18 @@ use mathlib.Core.Path.{_≡_, ap, _∙_}
 use Prim.Native.Nat.{_-_, _≤_}
 use native.Mathlib.Omega.{arith}
 use borrow.Author.Needs.{needs}
-use Rattle.names.specs.Lines.{line-count}
-use Rattle.names.specs.Chains.{bucket, Chained}
-use Rattle.names.proofs.IndexLaws.{name-is}
-use Rattle.names.proofs.ChainLaws.{chained-more}
+use Rattle.offsets.specs.Lines.{line-count}
+use Rattle.tags.specs.Tables.{bucket, TableOf}
+use Rattle.tags.proofs.TagLaws.{name-is}
+use Rattle.tags.proofs.TableLaws.{table-more}
 use Rattle.read_names.proofs.chain.Statement.{statement}
 use Rattle.read_names.proofs.chain.Tie as tie
 
 abbrev Inv-loop : tie.InvT-loop
-Inv-loop list lines count heads₀ nexts₀ chained₀ heads nexts chained = (chained ≤ count) × Chained list heads nexts chained
+Inv-loop list count tags₀ chained₀ tags chained = (chained ≤ count) × TableOf list tags chained
 
 abbrev μ-loop : tie.MeasureT-loop
-μ-loop list lines count heads₀ nexts₀ chained₀ heads nexts chained = count - chained
+μ-loop list count tags₀ chained₀ tags chained = count - chained
 
 pub chain-spec : {M : Type 1} → statement M
 chain-spec =
@@ -22,23 +22,19 @@ chain-spec =
     (tie.spec
     Inv-loop
     μ-loop
-    (λ c. (omega arith, c .before .pre .1 .1))
+    (λ c. (omega arith, c .before .pre .1))
     (λ c. omega arith)
     (λ c κs. search needs)
     (λ c κs. search needs)
+    (λ c κs. search needs)
     (λ c. omega arith)
-    (λ c. omega arith)
-    (λ c. omega arith)
-    (λ c. omega arith)
-    (λ c. omega arith)
-    (λ c. omega arith)
-    (λ c. omega arith)
-    (λ c. (
+    (λ c.
+    let made = c .before .before .before .before .before .before .loop .inv .1 in (
       omega arith,
-      chained-more (c .before .before .before .before .loop .inv .1) (omega arith)
+      table-more made (omega arith)
           (c .before .bucket .ensures .0 ∙ ap bucket
-          (c .before .before .name-of .ensures ∙ name-is _ _ (c .before .before .before .before .before .before .pre .0) _ (omega arith)
-          (omega arith))) (c .before .bucket .ensures .1),
+          (c .before .before .before .name-of .ensures ∙ name-is _ _ _ (made .index) (omega arith) (omega arith)))
+          (c .before .bucket .ensures .1) (c .link .ensures),
     ))
     (λ c. let e : line-count (c .before .before .before .args .list .now) ≡ c .before .loop .chained = omega arith in rw e
     (c .before .loop .inv .1)))

@@ -1,7 +1,7 @@
 -- `read_names::find` meets its contract: the name's chain has its tag.
 use native.Mathlib.Omega.{arith}
 use borrow.Author.Needs.{needs}
-use Rattle.names.proofs.ChainLaws.{found, found-tag}
+use Rattle.tags.proofs.ChainLaws.{found-all, found-tag}
 use Rattle.read_names.proofs.find.Statement.{statement}
 use Rattle.read_names.proofs.find.Tie as tie
 
@@ -10,10 +10,5 @@ find-spec =
     tie.close
     (tie.spec
     (λ c κs. search needs)
-    (λ c. search needs)
-    (λ c. search needs)
-    (λ c κs. search needs)
-    (λ c. found-tag (c .before .before .before .before .before .pre .0 .checked)
-    (found (c .before .before .before .before .before .pre .0 .indexed) (omega arith)
-    (c .before .before .before .before .before .pre .1) _ (c .before .before .bucket .ensures .0)
-    (c .before .before .bucket .ensures .1) (c .find-chained .ensures))))
+    (λ c. let listing = c .before .before .before .pre in found-tag (listing .checked)
+    (found-all (listing .made) (omega arith) _ (c .find .ensures))))

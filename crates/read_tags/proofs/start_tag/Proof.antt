@@ -11,23 +11,23 @@ start-tag-spec =
     (tie.spec
     (λ c κs. search needs)
     (λ c. rw (c .refused .ensures) (after-refused (omega arith)
-    (tag-too-deep (c .before .before .before .before .before .pre .1 .0) (c .before .before .before .before .before .pre .1 .1 .1)
+    (tag-too-deep (c .before .before .before .before .before .pre .1 .0) (c .before .before .before .before .before .pre .1 .1)
     (omega arith))))
     (λ c κs. search needs)
     (λ c. rw (c .refused2 .ensures)
     (after-refused (omega arith) (tag-too-many (c .before .before .before .before .before .before .before .pre .1 .0)
-    (c .before .before .before .before .before .before .before .pre .1 .1 .1) (c .before .before .before .if1 .left) (omega arith))))
+    (c .before .before .before .before .before .before .before .pre .1 .1) (c .before .before .before .if1 .left) (omega arith))))
     (λ c. omega (
       arith,
       name-there (c .before .before .before .before .before .before .pre .1 .0)
-          (c .before .before .before .before .before .before .pre .1 .1 .1),
+          (c .before .before .before .before .before .before .pre .1 .1),
     ))
     (λ c κs. (
       c .before .before .before .before .before .before .pre .0,
       omega (
         arith,
         name-there (c .before .before .before .before .before .before .pre .1 .0)
-            (c .before .before .before .before .before .before .pre .1 .1 .1),
+            (c .before .before .before .before .before .before .pre .1 .1),
       ),
     ))
     (λ c. search needs)
@@ -38,16 +38,16 @@ start-tag-spec =
     (λ c. rw (c .refused3 .ensures)
     (after-refused (omega arith) (tag-unknown
     (c .before .before .before .before .before .before .before .before .before .before .before .pre .1 .0)
-    (c .before .before .before .before .before .before .before .before .before .before .before .pre .1 .1 .1)
+    (c .before .before .before .before .before .before .before .before .before .before .before .pre .1 .1)
     (c .before .before .before .before .before .before .before .if1 .left) (c .before .before .before .before .before .if2 .left) _ _
     (c .before .before .before .before .skip .ensures .0) (c .before .before .find .ensures) (c .before .if3 .taken))))
     (λ c κs. omega (
       arith,
       tag-listed (c .before .before .before .before .before .before .before .before .before .before .pre .1 .0)
-          (c .before .before .before .before .before .before .before .before .before .before .pre .1 .1 .1)
+          (c .before .before .before .before .before .before .before .before .before .before .pre .1 .1)
           (c .before .before .before .before .before .before .if1 .left) (c .before .before .before .before .if2 .left) _ _
           (c .before .before .before .skip .ensures .0) (c .before .find .ensures) (c .if3 .left),
-      c .before .before .before .before .before .before .before .before .before .before .pre .1 .1 .1 .reads .above,
+      c .before .before .before .before .before .before .before .before .before .before .pre .1 .1 .reads .above,
     ))
     (λ c. search needs)
     (λ c. search needs)
@@ -61,7 +61,7 @@ start-tag-spec =
     (omega (arith, c .before .before .before .before .before .before .before .skip .ensures .1))
     (c .start-tag-end .ensures _ (tag-opens
     (c .before .before .before .before .before .before .before .before .before .before .before .before .before .before .pre .1 .0)
-    (c .before .before .before .before .before .before .before .before .before .before .before .before .before .before .pre .1 .1 .1)
+    (c .before .before .before .before .before .before .before .before .before .before .before .before .before .before .pre .1 .1)
     (c .before .before .before .before .before .before .before .before .before .before .if1 .left)
     (c .before .before .before .before .before .before .before .before .if2 .left) _ _
     (c .before .before .before .before .before .before .before .skip .ensures .0)

@@ -1,0 +1,4 @@
+pub mod Scan
+mod Parts
+pub mod LineLaws
+pub mod IndexLaws
