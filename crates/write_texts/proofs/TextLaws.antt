@@ -1,5 +1,6 @@
 -- The tests of 11: every byte of a text, its ends, and where it lies in its source.
 use mathlib.Core.Path.{_≡_, refl, sym, _∙_}
+use mathlib.Core.Logic.{_≢_}
 use mathlib.Core.Bool.{Bool, true, false, not, _&&_, _||_, and-assoc, and-true}
 use mathlib.Core.List.{List, [], _∷_}
 use Prim.Native.Nat.{ℕ, suc, _+_, _-_, _≤_, _<_}
@@ -17,11 +18,11 @@ use Rattle.write_nodes.proofs.SourceLaws.{source-part}
 -- ---- a test of every byte, from byte i on, with a flag for the bytes before it
 
 module _ (f : ℕ → Bool) (s : List ℕ) (i : ℕ) where
-  pub flag-next : (good : Bool) {all here : Bool} → all ≡ (good && every f (drop i s)) → i < length s → here ≡ f (getD s i 0) → all ≡
-      ((good && here) && every f (drop (i + 1) s))
+  pub flag-next : (good : Bool) {all here : Bool} → all ≡ (good && every f (drop i s)) → i < length s → here ≡ f (getD s i 0)
+      → all ≡ ((good && here) && every f (drop (i + 1) s))
   flag-next good {here = here} e h t = e ∙ rw (every-at f s i h, ← t) (sym (and-assoc good here _))
 
-  pub flag-end : (good : Bool) {all : Bool} → all ≡ (good && every f (drop i s)) → length s ≤ i → all ≡ good
+  flag-end : (good : Bool) {all : Bool} → all ≡ (good && every f (drop i s)) → length s ≤ i → all ≡ good
   flag-end good e h = e ∙ rw (every-end f s i h) (and-true good)
 
 -- ---- trimmed texts
@@ -38,18 +39,19 @@ trimmed-by (b ∷ s) h =
     go true q r = refl
     go false q r = refl
 
-pub trimmed-none : (s : List ℕ) → length s ≡ 0 → trimmed-text s ≡ false
+pub trimmed-none : (s : List ℕ) → length s ≡ 0 → false ≡ trimmed-text s
 unfolding trimmed-text
 trimmed-none [] h = refl
 trimmed-none (b ∷ s) h = absurd (omega arith)
 
-module _ (s : List ℕ) (some : 0 < length s) where
-  pub trimmed-white : (is (class-of (getD s 0 0)) white || is (class-of (getD s (length s - 1) 0)) white) ≡ true → trimmed-text s ≡ false
-  trimmed-white h = trimmed-by s some ∙ rw h
+module _ (s : List ℕ) (some : length s ≢ 0) {first last : Bool} (f : first ≡ is (class-of (getD s 0 0)) white)
+    (l : last ≡ is (class-of (getD s (length s - 1) 0)) white) where
+  pub trimmed-white : (first || last) ≡ true → false ≡ trimmed-text s
+  trimmed-white h = sym (trimmed-by s (omega arith) ∙ rw (← f, ← l, h))
 
-  pub trimmed-solid : (is (class-of (getD s 0 0)) white || is (class-of (getD s (length s - 1) 0)) white) ≡ false → trimmed-text s ≡ every
-      text-byte s
-  trimmed-solid h = trimmed-by s some ∙ rw h
+  pub trimmed-solid : (first || last) ≡ false → (good : Bool) (i : ℕ) → every text-byte s ≡ (good && every text-byte (drop i s))
+      → length s ≤ i → good ≡ trimmed-text s
+  trimmed-solid h good i e k = sym (trimmed-by s (omega arith) ∙ rw (← f, ← l, h) (flag-end text-byte s i good e k))
 
 -- ---- where a text lies
 

@@ -11,7 +11,7 @@ good-text-spec =
     (λ c. search needs)
     (λ c. search needs)
     (λ c. search needs)
-    (λ c. good-past _ _ _ (c .if1 .taken))
+    (λ c. search (good-past, needs))
     (λ c. search needs)
     (λ c. search needs)
     (λ c. search needs)
