@@ -39,11 +39,9 @@ fn answered(words: &Store, v: Values, out: &mut [u32]) -> usize {
 // answer counts of the lent buffer is kept on top of the store; its new top, STORE_WORDS where it is full.
 fn case(line: &[u8], words: &mut Store, from: usize, v: Values) -> usize {
     let mut out = sevens();
-    cases_print::bytes(bytes_of(line, from, v.comment));
-    cases_print::bytes(b"-> ");
+    cases_print::before_answer(line, from, v.comment);
     let kept = answered(words, v, &mut out);
-    cases_print::bytes(b"   ");
-    cases_print::bytes(bytes_of(line, v.comment, line.len()));
+    cases_print::after_answer(line, v.comment);
     push_words(words, v.start, part(&out, 0, kept))
 }
 
@@ -55,7 +53,7 @@ fn by_values(line: &[u8], words: &mut Store, from: usize, v: Values) -> usize {
         return STORE_WORDS;
     }
     if v.call == 0 {
-        cases_print::bytes(bytes_of(line, from, line.len()));
+        cases_print::line(line, from);
         return v.top;
     }
     case(line, words, from, v)
@@ -63,18 +61,16 @@ fn by_values(line: &[u8], words: &mut Store, from: usize, v: Values) -> usize {
 
 // Prints the line that begins at an index, with the answer where it is a case; the new top of the store.
 fn line(line: &[u8], words: &mut Store, from: usize, top: usize) -> usize {
-    let all = bytes_of(line, from, line.len());
-    let b = byte_at(all, 0);
+    let b = byte_at(line, from);
     if (b == b'\n') | (b == b'#') {
-        cases_print::bytes(all);
+        cases_print::line(line, from);
         return top;
     }
     let at = named_at(line, from);
     let v = content(line, words, from, at, top);
     let end = by_values(line, words, from, v);
     if end == STORE_WORDS {
-        cases_print::bytes(b"cannot be read: ");
-        cases_print::bytes(all);
+        cases_print::unreadable_line(line, from);
         return top;
     }
     if at == from {

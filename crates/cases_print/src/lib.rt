@@ -1,4 +1,4 @@
-// What is printed: answers, and lent buffers.
+// What is printed: lines, answers, and lent buffers.
 ghost use Prim.Native.Nat.{_<_, _^_};
 use cases_store::buffers::widen;
 use cases_store::scan::bytes_of;
@@ -11,9 +11,34 @@ const STDOUT: i32 = 1;
 // a longer buffer is printed by its length and its sum
 const MOST_SHOWN: usize = 48;
 
-pub fn bytes(run: &[u8]) {
+fn bytes(run: &[u8]) {
     io::write_all(STDOUT, run);
 }
+
+// ---- lines: each is lent as the input up to its end, with the index that it begins at
+
+pub fn line(line: &[u8], from: usize) {
+    bytes(bytes_of(line, from, line.len()));
+}
+
+pub fn unreadable_line(unread: &[u8], from: usize) {
+    bytes(b"cannot be read: ");
+    line(unread, from);
+}
+
+// What stands before a case's answer: the line up to its comment.
+pub fn before_answer(line: &[u8], from: usize, comment: usize) {
+    bytes(bytes_of(line, from, comment));
+    bytes(b"-> ");
+}
+
+// What stands after a case's answer: the comment.
+pub fn after_answer(case: &[u8], comment: usize) {
+    bytes(b"   ");
+    line(case, comment);
+}
+
+// ---- numbers
 
 // One space and a number.
 fn field(n: u64) {
