@@ -1,42 +1,100 @@
--- What is inside a node: no child, one child or several, and what its content reaches. A node, text or element, by that.
-use mathlib.Core.Path.{_≡_, refl, sym, ap, _∙_}
+-- What is inside a node: its children's state words gathered, and what its content reaches. A node, text or element, by that.
+use mathlib.Core.Path.{_≡_, refl, sym, ap, _∙_, subst}
 use mathlib.Core.Logic.{_≢_}
-use mathlib.Core.Bool.{Bool, true, false, cond, _&&_, _||_, and-false}
-use mathlib.Core.List.{List, [], _∷_, flatMap}
+use mathlib.Core.Bool.{Bool, true, false, _||_, or-assoc, or-true, _&&_}
+use mathlib.Core.List.{List, [], _∷_, _++_, append-assoc, append-nil}
 use mathlib.Core.Option.{Option, none, some}
-use Prim.Native.Nat.{ℕ, zero, suc, _+_, _-_, _*_, _^_, _≤_, _<_}
+use Prim.Native.Nat.{ℕ, _+_, _-_, _≤_, _<_, zero, suc, _^_}
+use native.Mathlib.Numerals.{add-one}
 use native.Mathlib.Omega.{arith}
 use lib.Dec.{eqb, eqb·zero-suc}
-use lib.ListN.{length, getD, take, drop}
+use lib.ListN.{length, getD, take, set, length-set, drop}
+use lib.Seq.{take-suc-set}
 use borrow.Author.Tests.{lt-ltb, le-ltb}
 use Rattle.model.specs.Lists.{has, only}
-use Rattle.model.specs.Tree.{symbol-at, size-at, text-symbol, symbol-of}
-use Rattle.model.specs.Sheet.{Rule, one, two, three, mask, bit}
-use Rattle.model.specs.Run.{at-tag, text-targets, content-targets, element-targets, element-looks}
-use Rattle.model.specs.Run.{Item, items, child-words, child-states}
+use Rattle.model.specs.Tree.{size-at, symbol-at, text-symbol, symbol-of}
+use Rattle.model.specs.Sheet.{Rule, mask, bit}
+use Rattle.model.specs.Run.{text-targets, content-targets, element-targets, element-looks, Item, items, child-words, child-states}
 use Rattle.model.specs.Index.{rules-in}
-use Rattle.model.proofs.Tests.{never}
+use Rattle.model.proofs.Tests.{eqb-false, never}
 use Rattle.model.proofs.SymbolLaws.{text-said, tag-said, nothing-said}
 use Rattle.symbols.specs.Meaning.{meaning}
 use Rattle.symbols.specs.declared.Symbol.{Symbol}
 use Rattle.symbols.specs.declared.Symbol.the-variants.{Tag, Text, Nothing}
 use Rattle.symbols.proofs.MeaningLaws.{means}
 use Rattle.bits.specs.Stands.{Stands}
-use Rattle.bits.proofs.SetLaws.{none-stands, stands-none, stands-some, gathers-none, gathers-more, gathers-all}
+use Rattle.bits.proofs.SetLaws.{none-stands, gathers-none, gathers-more, gathers-all}
 use Rattle.judge_order.specs.Order.{StateWords, states-of}
-use Rattle.judge_rules.specs.Rules.{RulesOf, at-tag-with}
-use Rattle.judge_rules.specs.Found.{Finds, FindsContent}
-use Rattle.judge_rules.specs.declared.numbers.Rules.{Rules}
-use Rattle.judge_rules.specs.declared.contents.Found.{Found}
-use Rattle.judge_rules.proofs.TargetLaws.{tags-with}
-use Rattle.judge_node.specs.Node.{Sized, Small, words-between, words-inside, lone-states, inside-targets, inside-looks, node-targets}
-use Rattle.judge_node.specs.Node.{node-looks}
-use Rattle.judge_node.specs.Judging.{Gathered, Judging, FindsInside, TagFinds, FindsNode}
-use Rattle.judge_node.specs.declared.At.{At}
+use Rattle.judge_rules.specs.Found.{Finds, TagFinds}
+use Rattle.judge_rules.specs.declared.targets.Found.{Found}
+use Rattle.judge_rules.proofs.TargetLaws.{no-tag}
+use Rattle.judge_contents.specs.Content.{FindsContent}
+use Rattle.judge_node.specs.Node.{Sized, Shaped, words-between, Small, words-inside, lone-states, inside-targets, inside-looks}
+use Rattle.judge_node.specs.Node.{node-targets, node-looks}
+use Rattle.judge_node.specs.Judging.{Gathered, Judging, FindsInside, FindsNode}
 use Rattle.judge_node.specs.declared.Children.{Children}
 use Rattle.judge_node.specs.declared.Children.the-variants.{Stateless, Number}
 use Rattle.judge_node.proofs.NodeLaws.{sized, words-done, words-more}
-use Rattle.judge_node.proofs.GatherLaws.{all-gathered, none-gathered}
+use Rattle.judge_node.specs.declared.At.{At}
+
+-- the front of a list that is filled, with one word more
+take-stored : (l : List ℕ) (n x : ℕ) → n < length l → take (n + 1) (set l n x) ≡ take n l ++ (x ∷ [])
+take-stored l n x h = rw (add-one n) (take-suc-set l n x h)
+
+has-append : (l m : List ℕ) (q : ℕ) → has (l ++ m) q ≡ (has l q || has m q)
+unfolding has
+has-append [] m q = refl
+has-append (x ∷ l) m q = ap (λ (b : Bool). eqb q x || b) (has-append l m q) ∙ sym (or-assoc (eqb q x) (has l q) (has m q))
+
+-- so far the first n words are those of the children before node `at`, and none of them is 0
+pub record Gathering (tree states : List ℕ) (first end room : ℕ) (words : List ℕ) (n at : ℕ) : Type 0 where
+  pub long : length words ≡ room
+  pub few : (n ≤ at) × (n ≤ room)
+  pub rest : take n words ++ words-between tree states at end ≡ words-between tree states first end
+  pub full : has (take n words) 0 ≡ false
+
+pub gather-none : (tree states : List ℕ) (first end : ℕ) (words : List ℕ) → Gathering tree states first end (length words) words 0 first
+unfolding has
+gather-none tree states first end words = record { long = refl; few = (omega arith, omega arith); rest = refl; full = refl }
+
+module _ {tree states : List ℕ} {first end room : ℕ} {words : List ℕ} {n at : ℕ} (g : Gathering tree states first end room words n at) where
+  pub gather-done : end ≤ at → Gathered (Number n) (words-between tree states first end) words
+  gather-done h =
+      let e : take n words ≡ words-between tree states first end = sym (append-nil (take n words)) ∙ rw (words-done tree states at end h)
+      at (g .rest) in
+      (e, omega (arith, g .few, g .long), ap (λ (l : List ℕ). has l 0) (sym e) ∙ g .full)
+
+  module _ (t : Shaped tree (length states)) (inside : at < end) (whole : end ≤ length states) where
+    pub gather-zero : getD states at 0 ≡ 0 → has (words-between tree states first end) 0 ≡ true
+    unfolding has
+    gather-zero z =
+        sym (ap (λ (l : List ℕ). has l 0) (g .rest)) ∙ has-append (take n words) (words-between tree states at end) 0
+        ∙ rw (words-more states at end t (sized (t .sizes) (omega (arith, t .long)) refl) inside whole, z) (or-true (has (take n words) 0))
+
+    pub gather-more : {z : ℕ} → Sized tree at z → getD states at 0 ≢ 0 → length states ≤ room
+        → Gathering tree states first end room (set words n (getD states at 0)) (n + 1) (at + z)
+    unfolding has
+    gather-more {z} here nz fits =
+        let x = getD states at 0 in
+        let e : take (n + 1) (set words n x) ≡ take n words ++ (x ∷ []) = take-stored words n x (omega (arith, g .few, g .long)) in
+        record {
+          long = length-set words n x ∙ g .long;
+          few = omega (arith, g .few, here .some);
+          rest = rw (
+            e,
+            append-assoc (take n words) (x ∷ []) (words-between tree states (at + z) end),
+            ← words-more states at end t here inside whole,
+          ) (g .rest);
+          full = rw e (has-append (take n words) (x ∷ []) 0 ∙ rw (g .full, eqb-false (λ k. nz (sym k))));
+        }
+
+-- what was gathered, by its case
+pub all-gathered : {x : Children} {n : ℕ} (all words : List ℕ) → Gathered x all words → x ≡ Number n → (take n words ≡ all) ×
+    (n ≤ length words) × (has all 0 ≡ false)
+all-gathered all words g e = subst (λ y. Gathered y all words) e g
+
+pub none-gathered : {x : Children} (all words : List ℕ) → Gathered x all words → x ≡ Stateless → has all 0 ≡ true
+none-gathered all words g e = subst (λ y. Gathered y all words) e g
 
 -- ---- the children's state words
 
@@ -178,41 +236,6 @@ module _ {s index : List ℕ} {at : At} {tree states words : List ℕ} (j : Judg
         several-inside f =
             let (same, _, full) = all-gathered _ left got is in
             rw (← whole .is, states-some (words-between tree states (i + 1) (i + size)) full) (rw same at f)
-
--- ---- an element, by what its content reaches
-
--- nothing is reached from no state
-no-tag : (a : ℕ) (R : List Rule) → flatMap (at-tag a []) R ≡ []
-unfolding flatMap at-tag only has
-no-tag a [] = refl
-no-tag a (one k q ∷ R) = no-tag a R
-no-tag a (two b c q ∷ R) = rw (and-false (eqb b a)) (no-tag a R)
-no-tag a (three o c q ∷ R) = no-tag a R
-
-module _ {s index : List ℕ} {r : Rules} (k : RulesOf s index r) where
-  -- the content reaches no state
-  pub tagged-unreached : (tag : ℕ) {inside : Found} → inside .targets ≡ 0 → TagFinds (rules-in s) tag inside
-      (record { targets = 0; looks = inside .looks })
-  tagged-unreached tag e = record {
-    found = λ l n f.
-        let none = stands-none (f .reached) e in
-        rw (none, no-tag tag (rules-in s))
-        (record { reached = none-stands; number = omega (arith, f .number); few = omega (arith, f .few) });
-  }
-
-  -- it reaches some
-  pub tagged-reached : {tag targets : ℕ} {inside : Found} → inside .targets ≢ 0
-      → Stands targets (flatMap (at-tag-with tag (inside .targets)) (rules-in s))
-      → TagFinds (rules-in s) tag inside (record { targets = targets; looks = inside .looks + r .twos })
-  tagged-reached {tag} some-state reach = record {
-    found = λ l n f.
-        let (x, xs, e) = stands-some (f .reached) some-state in
-        record {
-          reached = rw (tags-with tag (f .reached) (rules-in s)) at reach;
-          number = rw e (omega (arith, f .number, k .tags));
-          few = omega (arith, f .few, k .few, k .ruled .few);
-        };
-  }
 
 -- ---- a node, by what its symbol says
 

@@ -1,3 +1,2 @@
 pub mod NodeLaws
-mod GatherLaws
 mod InsideLaws

@@ -12,11 +12,11 @@ use lib.Seq.{drop-cons, drop-drop}
 use Rattle.model.specs.Tree.{Element, text, tag, Document, ε, _·_, size, sizeD, words, wordsD, is-text, Keeps, KeepsD, symbol-at, size-at}
 use Rattle.model.specs.Tree.{tree-of}
 use Rattle.model.specs.Sheet.{Rule}
-use Rattle.model.specs.Run.{text-targets, element-targets, of-kind, element-looks, gist, Item, items, child-words, child-states, ran, put}
+use Rattle.model.specs.Run.{gist, Item, items, child-words, ran, put}
 use Rattle.model.specs.Run.{judge-text, judge-element, judge-node}
 use Rattle.model.specs.Answers.{passes}
 use Rattle.model.proofs.TreeLaws.{length-words, tree-passes}
-use Rattle.judge_node.specs.Node.{Sizes, Sized, Shaped, words-between, words-inside, node-targets, node-looks}
+use Rattle.judge_node.specs.Node.{Sizes, Sized, Shaped, words-between, node-targets, node-looks}
 
 -- ---- nodes by their words
 
@@ -145,17 +145,12 @@ pub node-judged : (R : List Rule) (tree states : List ℕ) (i m : ℕ)
     → judge-node R (item-at tree i) (drop (i + 1) (items tree)) (ran (drop (i + 1) states) m)
     ≡ put (gist (node-targets R tree states i)) (node-looks R tree states i) (drop (i + 1) states) m
 unfolding judge-node judge-text judge-element node-targets node-looks
-node-judged R tree states i m = go (ltb 64 (symbol-at tree i))
+node-judged R tree states i m =
+    let e : size-at tree i - 1 ≡ i + size-at tree i - (i + 1) = omega arith in
+    rw e (go (ltb 64 (symbol-at tree i)) _ _ _ _)
   where
-    e : size-at tree i - 1 ≡ i + size-at tree i - (i + 1)
-    e = omega arith
-
-    go : (b : Bool)
-        → cond b (judge-text R (symbol-at tree i - 64) (drop (i + 1) states) m)
-        (judge-element R (symbol-at tree i)
-        (child-states (child-words (size-at tree i - 1) 0 (drop (i + 1) (items tree)) (drop (i + 1) states))) (drop (i + 1) states) m)
-        ≡ put (gist (cond b (text-targets R (symbol-at tree i - 64))
-        (element-targets R (symbol-at tree i) (child-states (words-inside tree states i)))))
-        (cond b (of-kind 1 R) (element-looks R (child-states (words-inside tree states i)))) (drop (i + 1) states) m
-    go true = refl
-    go false = rw e
+    go : (b : Bool) (l k : List ℕ) (x y : ℕ)
+        → cond b (put (gist l) x (drop (i + 1) states) m) (put (gist k) y (drop (i + 1) states) m)
+        ≡ put (gist (cond b l k)) (cond b x y) (drop (i + 1) states) m
+    go true l k x y = refl
+    go false l k x y = refl

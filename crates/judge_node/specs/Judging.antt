@@ -1,16 +1,17 @@
 -- What a node is judged by, and what is found: of its children's state words, of its content, and of the node.
 use mathlib.Core.Path.{_≡_}
 use mathlib.Core.Bool.{true, false}
-use mathlib.Core.List.{List, [], flatMap}
+use mathlib.Core.List.{List, []}
 use Prim.Native.Nat.{ℕ, _+_, _^_, _≤_, _<_}
 use lib.ListN.{length, take, drop}
 use Rattle.model.specs.Lists.{has}
 use Rattle.model.specs.Sheet.{Rule}
-use Rattle.model.specs.Run.{at-tag, of-kind, unless-none, child-states}
+use Rattle.model.specs.Run.{child-states}
 use Rattle.model.specs.Index.{rules-in}
 use Rattle.judge_rules.specs.Rules.{RulesOf}
-use Rattle.judge_rules.specs.Found.{Finds, FindsContent}
-use Rattle.judge_rules.specs.declared.contents.Found.{Found}
+use Rattle.judge_rules.specs.Found.{Finds}
+use Rattle.judge_rules.specs.declared.targets.Found.{Found}
+use Rattle.judge_contents.specs.Content.{FindsContent}
 use Rattle.judge_node.specs.Node.{Shaped, Small, words-inside, inside-targets, inside-looks, node-targets, node-looks}
 use Rattle.judge_node.specs.declared.At.{At}
 use Rattle.judge_node.specs.declared.Children.{Children}
@@ -36,11 +37,6 @@ abbrev pub FindsInside : (R : List Rule) (tree states : List ℕ) (i : ℕ) → 
 FindsInside R tree states i f =
     let w = child-states (words-inside tree states i) in
     Finds (2 ^ 42) f (inside-targets R w) (inside-looks R w)
-
--- what an element with this tag reaches, by what its content reaches
-pub record TagFinds (R : List Rule) (tag : ℕ) (inside f : Found) : Type 0 where
-  pub found : (l : List ℕ) (n : ℕ) → Finds (2 ^ 42) inside l n
-      → Finds (2 ^ 43) f (flatMap (at-tag tag l) R) (n + unless-none l (of-kind 2 R))
 
 -- what node i reaches
 abbrev pub FindsNode : (R : List Rule) (tree states : List ℕ) (i : ℕ) → Found → Type 0

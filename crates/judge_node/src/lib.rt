@@ -2,14 +2,13 @@
 ghost use Prim.Native.Nat.{_+_, _*_, _^_, _≤_};
 ghost use lib.ListN.{length};
 ghost use Rattle.model.specs.Index.{rules-in};
-ghost use Rattle.judge_rules.specs.Rules.{RulesOf};
 ghost use Rattle.judge_rules.specs.Found.{Finds};
 ghost use Rattle.judge_node.specs.Node.{Sizes, Sized, Shaped, words-between, lone-states};
-ghost use Rattle.judge_node.specs.Judging.{Gathered, TagFinds, Judging, FindsInside, FindsNode};
+ghost use Rattle.judge_node.specs.Judging.{Gathered, Judging, FindsInside, FindsNode};
+use judge_contents::content;
 use judge_rules::Found;
 use judge_rules::Rules;
-use judge_rules::content;
-use judge_rules::tag_targets;
+use judge_rules::tagged;
 use judge_rules::text_targets;
 use layout::NODE_WORDS;
 use layout::wide;
@@ -103,23 +102,6 @@ fn inside(
         };
     };
     content(sheet, index, at.rules, &words[..n])
-}
-
-// What content reaches in an element with a tag: the kind-two rules are looked at where the content reaches a state.
-fn tagged(sheet: &[u32], index: &[u32], rules: Rules, tag: u32, inside: Found) -> Found
-    requires index { ⌜ RulesOf (now sheet) (now index) rules ⌝ }
-    requires tag { ⌜ (1 ≤ tag) × (tag ≤ 64) × (inside .looks ≤ 2 ^ 42) ⌝ }
-    ensures { λ f. ⌜ TagFinds (rules-in (now (sheet .entry))) tag inside f ⌝ }
-{
-    let inner = inside.targets;
-    let looks = inside.looks;
-    if inner == 0 {
-        return Found { targets: 0, looks };
-    }
-    Found {
-        targets: tag_targets(sheet, index, rules.number, tag, inner),
-        looks: looks + rules.twos,
-    }
 }
 
 // The states that a node reaches, a text or an element. `words` is lent to gather in.

@@ -1,4 +1,1 @@
-mod KindLaws
 pub mod TargetLaws
-mod TryLaws
-pub mod ContentLaws

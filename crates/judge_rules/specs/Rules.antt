@@ -3,15 +3,13 @@ use mathlib.Core.Path.{_≡_}
 use mathlib.Core.Bool.{Bool, true, false, cond, _&&_, _||_}
 use mathlib.Core.List.{List, [], _∷_}
 use mathlib.Core.Option.{none, some}
-use Prim.Native.Nat.{ℕ, suc, _+_, _^_, _≤_, _<_}
+use Prim.Native.Nat.{ℕ, _+_, _≤_, _<_}
 use lib.Dec.{eqb}
 use lib.ListN.{length, getD}
 use Rattle.model.specs.Lists.{only}
-use Rattle.model.specs.Sheet.{Rule, one, two, three, rule-words, bit, mask}
-use Rattle.model.specs.Run.{at-content, looks-of, of-kind}
-use Rattle.model.specs.Spans.{RuleAt, Content, content, counted}
+use Rattle.model.specs.Sheet.{Rule, one, two, three, bit, mask}
+use Rattle.model.specs.Run.{of-kind}
 use Rattle.model.specs.Index.{rules-in, Indexed}
-use Rattle.judge_count.specs.Count.{Occurs, Counts, CountPart, CountSays}
 use Rattle.judge_rules.specs.declared.numbers.Rules.{Rules}
 
 -- ---- numbers of rules
@@ -53,35 +51,3 @@ unfoldable pub at-tag-with : (tag inner : ℕ) → Rule → List ℕ
 at-tag-with a inner (one j q) = []
 at-tag-with a inner (two b c q) = only (eqb b a && bit inner c) q
 at-tag-with a inner (three o c q) = []
-
--- ---- a rule of kind three
-
--- a content rule from word `at` on, over at most 64 states, with its target at word `target`
-pub record ContentAt (s : List ℕ) (at target : ℕ) : Type 0 where
-  pub states : ℕ
-  pub fields : Content
-  pub few-states : states ≤ 64
-  pub few-words : length s ≤ 16384
-  pub before : at < target
-  pub room : target < length s
-  pub here : RuleAt states s at (content fields)
-  pub ends : target + 1 ≡ at + length (rule-words states (content fields))
-
--- the counts are how often each state occurs among w, if the rule at word `at` has a count part by its map
-pub record CountedAt (s : List ℕ) (at : ℕ) (counts w : List ℕ) : Type 0 where
-  pub known : counted (getD s at 0) ≡ true → Occurs counts w
-
--- a count part and counts, if there is a count part; and whether it fits
-pub record CountIf (part : List ℕ) (there : Bool) (counts : List ℕ) : Type 0 where
-  pub lent : there ≡ true → CountPart part × Counts counts
-
-pub record CountHolds (part : List ℕ) (there : Bool) (counts : List ℕ) (holds : Bool) : Type 0 where
-  pub by-part : there ≡ true → CountSays part counts holds
-  pub by-none : there ≡ false → holds ≡ true
-
--- The rule tried on the child states w: it gives its target if it fits, and takes a look and one more for each child that it reads.
-pub record Tries (s : List ℕ) (at target : ℕ) (w : List ℕ) (fits : Bool) (reads : ℕ) : Type 0 where
-  pub gives : (c : ContentAt s at target) → at-content w (content (c .fields)) ≡ only fits (getD s target 0)
-  pub takes : (c : ContentAt s at target) → looks-of w (content (c .fields)) ≡ suc reads
-  pub few : reads < 2 ^ 32
-  pub there : target < length s

@@ -1,14 +1,22 @@
-// What the rules of kinds one and two give, as sets of target states.
+// What the rules of kinds one and two give, as sets of target states; and what an element reaches by its content.
 ghost use mathlib.Core.Path.{_≡_};
 ghost use mathlib.Core.List.{flatMap};
-ghost use Prim.Native.Nat.{_+_, _≤_, _<_};
+ghost use Prim.Native.Nat.{_+_, _^_, _≤_, _<_};
 ghost use lib.ListN.{length};
 ghost use Rattle.model.specs.Run.{text-targets};
 ghost use Rattle.model.specs.Index.{rules-in};
 ghost use Rattle.bits.specs.Stands.{Stands};
-ghost use Rattle.judge_rules.specs.Rules.{Ruled, with-target, at-tag-with};
+ghost use Rattle.judge_rules.specs.Rules.{Ruled, RulesOf, with-target, at-tag-with};
+ghost use Rattle.judge_rules.specs.Found.{TagFinds};
+use crate::numbers::Rules;
 use layout::ENTRIES;
 use layout::wide;
+
+// A set of target states, and how many looks were taken to find it.
+pub struct Found {
+    pub targets: u64,
+    pub looks: usize,
+}
 
 // the keys of tags are after those of the kinds of texts
 const TEXT_KINDS: usize = 2;
@@ -42,7 +50,7 @@ fn with_target(sheet: &[u32], at: usize, inner: u64, targets: u64) -> u64
 }
 
 // The targets of the kind-two rules for a tag whose content reaches the states of `inner`, along the tag's chain.
-pub fn tag_targets(sheet: &[u32], index: &[u32], rules: usize, tag: u32, inner: u64) -> u64
+fn tag_targets(sheet: &[u32], index: &[u32], rules: usize, tag: u32, inner: u64) -> u64
     requires index { ⌜ Ruled (now sheet) (now index) rules ⌝ }
     requires tag { ⌜ (1 ≤ tag) × (tag ≤ 64) ⌝ }
     ensures { λ r. ⌜ Stands r (flatMap (at-tag-with tag inner) (rules-in (now (sheet .entry)))) ⌝ }
@@ -55,4 +63,21 @@ pub fn tag_targets(sheet: &[u32], index: &[u32], rules: usize, tag: u32, inner: 
         i = rule.next;
     }
     targets
+}
+
+// What content reaches in an element with a tag: the kind-two rules are looked at where the content reaches a state.
+pub fn tagged(sheet: &[u32], index: &[u32], rules: Rules, tag: u32, inside: Found) -> Found
+    requires index { ⌜ RulesOf (now sheet) (now index) rules ⌝ }
+    requires tag { ⌜ (1 ≤ tag) × (tag ≤ 64) × (inside .looks ≤ 2 ^ 42) ⌝ }
+    ensures { λ f. ⌜ TagFinds (rules-in (now (sheet .entry))) tag inside f ⌝ }
+{
+    let inner = inside.targets;
+    let looks = inside.looks;
+    if inner == 0 {
+        return Found { targets: 0, looks };
+    }
+    Found {
+        targets: tag_targets(sheet, index, rules.number, tag, inner),
+        looks: looks + rules.twos,
+    }
 }

@@ -19,9 +19,9 @@ use Rattle.model.proofs.TreeLaws.{tree-passes}
 use Rattle.model.proofs.RunLaws.{over-formed, RunSays, run-says}
 use Rattle.model.proofs.PassedLaws.{in-range}
 use Rattle.judge_rules.specs.Rules.{RulesOf}
-use Rattle.judge_rules.specs.Found.{FindsContent}
 use Rattle.judge_rules.specs.declared.numbers.Rules.{Rules}
-use Rattle.judge_rules.specs.declared.contents.Found.{Found}
+use Rattle.judge_rules.specs.declared.targets.Found.{Found}
+use Rattle.judge_contents.specs.Content.{FindsContent}
 use Rattle.judge_node.specs.Node.{Shaped, Small, node-targets, node-looks}
 use Rattle.judge_node.specs.Judging.{Judging, FindsNode}
 use Rattle.judge_node.proofs.NodeLaws.{items-at, length-items, tree-shaped, node-judged}
@@ -53,11 +53,12 @@ two-decides R (suc j) k (x ∷ l) h e = let f : suc (j + k) ≡ suc j + k = omeg
 
 -- the nodes from i on have their state words, found with these looks
 pub record Running (R : List Rule) (tree : List ℕ) (n i : ℕ) (states : List ℕ) (looks : ℕ) : Type 0 where
+  pub shaped : Shaped tree n
   pub within : i ≤ n
   pub long : length states ≡ n
   pub small : Small (drop i states)
   pub so-far : run R (drop i (items tree)) ≡ ran (drop i states) looks
-  pub few : (n ≤ 4096) × (looks ≤ (n - i) * 2 ^ 43)
+  pub few : looks ≤ (n - i) * 2 ^ 43
 
 pub running-none : (R : List Rule) {tree : List ℕ} (states : List ℕ) → Shaped tree (length states) → Running R tree (length states)
     (length states) states 0
@@ -65,26 +66,26 @@ unfolding run
 running-none R {tree} states t =
     let e = length-items (length states) tree (t .long) in
     record {
+      shaped = t;
       within = omega arith;
       long = refl;
       small = rw (drop-length states) tt;
       so-far = rw (drop-of-length-le (items tree) {i = length states} (omega arith), drop-length states);
-      few = omega (arith, t .few);
+      few = omega arith;
     }
 
 pub running-all : {R : List Rule} {tree : List ℕ} {n i : ℕ} {states : List ℕ} {looks : ℕ} → Running R tree n i states looks → i ≤ 0 → run R
     (items tree) ≡ ran states looks
 running-all {i = i} g h = let z : i ≡ 0 = omega arith in rw z at (g .so-far)
 
-module _ {R : List Rule} {tree : List ℕ} {n i : ℕ} {states : List ℕ} {looks : ℕ} (t : Shaped tree n) (g : Running R tree n i states looks)
-    (more : 0 < i) where
+module _ {R : List Rule} {tree : List ℕ} {n i : ℕ} {states : List ℕ} {looks : ℕ} (g : Running R tree n i states looks) (more : 0 < i) where
   -- node i − 1 is judged before those
   judged : run R (drop (i - 1) (items tree)) ≡ put (gist (node-targets R tree states (i - 1))) (node-looks R tree states (i - 1))
       (drop i states) looks
   unfolding run
   judged =
       let e : i - 1 + 1 ≡ i = omega arith in
-      rw (items-at tree (i - 1) (omega (arith, t .long, g .within)), e, g .so-far) (rw e at (node-judged R tree states (i - 1) looks))
+      rw (items-at tree (i - 1) (omega (arith, g .shaped .long, g .within)), e, g .so-far) (rw e at (node-judged R tree states (i - 1) looks))
 
   -- what its judging asks
   pub running-judging : {s index words : List ℕ} {rules : Rules} {nothing : Found} → RulesOf s index rules
@@ -94,7 +95,7 @@ module _ {R : List Rule} {tree : List ℕ} {n i : ℕ} {states : List ℕ} {look
       record {
         rules = k;
         nothing = f;
-        shaped = rw (g .long) t;
+        shaped = rw (g .long) (g .shaped);
         node = omega (arith, g .within, g .long);
         small = rw e (g .small);
         room = omega (arith, g .long);
@@ -110,7 +111,7 @@ module _ {R : List Rule} {tree : List ℕ} {n i : ℕ} {states : List ℕ} {look
     pub running-two : w ≡ 65 → run R (items tree) ≡ two-at (i - 1)
     running-two e =
         let z : i - 1 + 0 ≡ i - 1 = omega arith in
-        let within : i - 1 ≤ length (items tree) = omega (arith, length-items n tree (t .long), g .within) in
+        let within : i - 1 ≤ length (items tree) = omega (arith, length-items n tree (g .shaped .long), g .within) in
         rw z at (two-decides R (i - 1) 0 (items tree) within
         (judged ∙ put-two (gist (node-targets R tree states (i - 1))) its-word e _ _ _))
 
@@ -124,6 +125,7 @@ module _ {R : List Rule} {tree : List ℕ} {n i : ℕ} {states : List ℕ} {look
         drop-cons (set states (i - 1) w) (i - 1) 0 (omega (arith, length-set states (i - 1) w, running-room))
         ∙ rw (getD-set-same states (i - 1) w 0 running-room, next, drop-set-lt i states (i - 1) w (omega arith)) in
         rw el (record {
+          shaped = g .shaped;
           within = omega (arith, g .within);
           long = length-set states (i - 1) w ∙ g .long;
           small = rw back (small, g .small);

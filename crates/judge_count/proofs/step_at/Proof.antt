@@ -2,7 +2,6 @@
 use mathlib.Core.Bool.{_&&_, _||_}
 use Prim.Native.Nat.{_+_, _<_}
 use native.Mathlib.Omega.{arith}
-use borrow.Author.Needs.{needs}
 use lib.ListN.{length}
 use Rattle.judge_count.proofs.SumLaws.{marks-there}
 use Rattle.judge_count.proofs.StepLaws.{said, kind-there, sum-room, at-most-found, remainder-found, not-found, pair-found}

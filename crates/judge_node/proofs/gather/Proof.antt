@@ -2,7 +2,7 @@
 use Prim.Native.Nat.{_-_}
 use borrow.Author.Needs.{needs}
 use lib.ListN.{length}
-use Rattle.judge_node.proofs.GatherLaws.{Gathering, gather-none, gather-done, gather-zero, gather-more}
+use Rattle.judge_node.proofs.InsideLaws.{Gathering, gather-none, gather-done, gather-zero, gather-more}
 use Rattle.judge_node.proofs.gather.Statement.{statement}
 use Rattle.judge_node.proofs.gather.Tie as tie
 

@@ -4,7 +4,7 @@ use native.Mathlib.Omega.{arith}
 use borrow.Author.Needs.{needs}
 use lib.ListN.{length, replicate}
 use Rattle.model.specs.Index.{rules-in}
-use Rattle.judge_rules.proofs.ContentLaws.{no-words, nothing-found}
+use Rattle.judge_contents.proofs.ContentLaws.{no-words, nothing-found}
 use Rattle.judge_run.proofs.RunLaws.{Running, running-none, running-all, running-room, running-judging, running-two, running-more}
 use Rattle.judge_run.proofs.run.Statement.{statement}
 use Rattle.judge_run.proofs.run.Tie as tie
@@ -33,7 +33,7 @@ run-spec =
     let start = loop .before .before .before .before .before .before .before .before .before in
     let rules = loop .before .before .before .count-rules .ensures in
     let nothing = nothing-found _ (loop .before .content .ensures) in
-    running-judging (start .pre .1 .0) (loop .loop .inv .0) (c .before .before .loop-test .taken) rules nothing
+    running-judging (loop .loop .inv .0) (c .before .before .loop-test .taken) rules nothing
     (omega (arith, start .pre .1 .1, loop .loop .inv .1)))
     (λ c κs. search needs)
     (λ c κs. search needs)
@@ -46,10 +46,9 @@ run-spec =
     (λ c.
     let judged = c .before .before .before .before .before .before .before .before in
     let loop = judged .before .before .before .before in
-    let start = loop .before .before .before .before .before .before .before .before .before in
     let word = c .before .before .before .before in
     let taken = judged .before .before .before .loop-test .taken in
-    let two = running-two (start .pre .1 .0) (loop .loop .inv .0) taken _ (judged .node .ensures) (word .before .state-word .ensures)
+    let two = running-two (loop .loop .inv .0) taken _ (judged .node .ensures) (word .before .state-word .ensures)
     (word .if1 .taken) in
     (two, c .before .before .clear .ensures ∙ ap (λ n. replicate n 0) (loop .loop .inv .0 .long)))
     (λ c κs. search (running-room, needs))
@@ -58,11 +57,10 @@ run-spec =
     (λ c.
     let judged = c .before .before .before .before .before .before .before .before .before in
     let loop = judged .before .before .before .before in
-    let start = loop .before .before .before .before .before .before .before .before .before in
     let word = c .before .before .before .before .before in
     let taken = judged .before .before .before .loop-test .taken in
     let kept = c .before .before .before .keep .ensures in
-    let more = running-more (start .pre .1 .0) (loop .loop .inv .0) taken _ (judged .node .ensures) (word .before .state-word .ensures)
+    let more = running-more (loop .loop .inv .0) taken _ (judged .node .ensures) (word .before .state-word .ensures)
     (word .if1 .left) kept in
     (more, judged .node .kept .1 .1 .1 .1 .1 .0 ∙ loop .loop .inv .1))
     (λ c. search needs)

@@ -2,7 +2,7 @@
 use Prim.Native.Nat.{_-_}
 use native.Mathlib.Omega.{arith}
 use borrow.Author.Needs.{needs}
-use Rattle.judge_rules.proofs.KindLaws.{Numbering, numbering-none, numbering-more, numbering-all}
+use Rattle.judge_rules.proofs.TargetLaws.{Numbering, numbering-none, numbering-more, numbering-all}
 use Rattle.judge_rules.proofs.numbers.count_rules.Statement.{statement}
 use Rattle.judge_rules.proofs.numbers.count_rules.Tie as tie
 

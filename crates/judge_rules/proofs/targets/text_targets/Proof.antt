@@ -17,7 +17,8 @@ abbrev μ-loop : tie.MeasureT-loop
 μ-loop sheet index rules kind targets₀ i₀ targets i = rules - i
 
 -- the target of the rule in hand is in the sheet
-room : (c : tie.After-struct-known Inv-loop μ-loop) → c .before .entry-of .result .begin + 2 < length (c .before .before .before .before .before .before .before .before .before .before .args .sheet .now)
+room : (c : tie.After-struct-known Inv-loop μ-loop) → let loop = c .before .before .before .before in
+    c .before .entry-of .result .begin + 2 < length (loop .before .before .before .before .before .before .args .sheet .now)
 room c =
     let loop = c .before .before .before .before in
     let start = loop .before .before .before .before .before .before in

@@ -1,9 +1,9 @@
--- `contents::try_rule` meets its contract, by the rule's map: its parts are where the map says, and both must fit.
+-- `judge_contents::try_rule` meets its contract, by the rule's map: its parts are where the map says, and both must fit.
 use borrow.Author.Needs.{needs}
-use Rattle.judge_rules.proofs.TryLaws.{middle-before, middle-room, middle-within, middle-fits, order-lent, first-lent, second-lent}
-use Rattle.judge_rules.proofs.TryLaws.{unordered-tries, unfit-tries, ordered-tries}
-use Rattle.judge_rules.proofs.contents.try_rule.Statement.{statement}
-use Rattle.judge_rules.proofs.contents.try_rule.Tie as tie
+use Rattle.judge_contents.proofs.ContentLaws.{middle-before, middle-room, middle-within, middle-fits, order-lent, first-lent, second-lent}
+use Rattle.judge_contents.proofs.ContentLaws.{unordered-tries, unfit-tries, ordered-tries}
+use Rattle.judge_contents.proofs.try_rule.Statement.{statement}
+use Rattle.judge_contents.proofs.try_rule.Tie as tie
 
 pub try-rule-spec : {M : Type 1} → statement M
 try-rule-spec =

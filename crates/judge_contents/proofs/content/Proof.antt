@@ -1,10 +1,10 @@
--- `contents::content` meets its contract: with a count part the occurrences are counted, and without one they are not looked at.
+-- `judge_contents::content` meets its contract: with a count part the occurrences are counted, and without one they are not looked at.
 use mathlib.Core.Logic.{⊎-elim}
 use native.Mathlib.Omega.{arith}
 use borrow.Author.Needs.{needs}
-use Rattle.judge_rules.proofs.ContentLaws.{counted-if, several-found}
-use Rattle.judge_rules.proofs.contents.content.Statement.{statement}
-use Rattle.judge_rules.proofs.contents.content.Tie as tie
+use Rattle.judge_contents.proofs.ContentLaws.{counted-if, several-found}
+use Rattle.judge_contents.proofs.content.Statement.{statement}
+use Rattle.judge_contents.proofs.content.Tie as tie
 
 pub content-spec : {M : Type 1} → statement M
 content-spec =

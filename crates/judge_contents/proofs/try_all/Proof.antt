@@ -1,16 +1,15 @@
--- `contents::try_all` meets its contract: so far the set and the looks are those of the rules before the i-th, which is of content.
+-- `judge_contents::try_all` meets its contract: so far the set and the looks are those of the rules before the i-th, which is of content.
 use mathlib.Core.Path.{refl}
 use Prim.Native.Nat.{_-_}
-use native.Mathlib.Omega.{arith}
 use borrow.Author.Needs.{needs}
 use Rattle.model.specs.Index.{rules-in}
 use Rattle.judge_order.specs.Order.{states-of}
 use Rattle.judge_rules.proofs.TargetLaws.{chain-nearer}
-use Rattle.judge_rules.proofs.TryLaws.{look-fits}
-use Rattle.judge_rules.proofs.ContentLaws.{Trying, trying-begun, ends-some, next-content, next-counted, looks-fit, trying-more}
-use Rattle.judge_rules.proofs.ContentLaws.{trying-ended}
-use Rattle.judge_rules.proofs.contents.try_all.Statement.{statement}
-use Rattle.judge_rules.proofs.contents.try_all.Tie as tie
+use Rattle.judge_contents.proofs.ContentLaws.{look-fits}
+use Rattle.judge_contents.proofs.ContentLaws.{Trying, trying-begun, ends-some, next-content, next-counted, looks-fit, trying-more}
+use Rattle.judge_contents.proofs.ContentLaws.{trying-ended}
+use Rattle.judge_contents.proofs.try_all.Statement.{statement}
+use Rattle.judge_contents.proofs.try_all.Tie as tie
 
 abbrev Inv-loop : tie.InvT-loop
 Inv-loop sheet index rules words counts targets₀ looks₀ i₀ targets looks i = Trying (rules-in sheet) (states-of words) i targets looks

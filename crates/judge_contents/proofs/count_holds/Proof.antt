@@ -1,9 +1,8 @@
--- `contents::count_holds` meets its contract: without a count part, whatever is asked of one holds.
+-- `judge_contents::count_holds` meets its contract: without a count part, whatever is asked of one holds.
 use mathlib.Core.Path.{sym, refl, _∙_}
-use borrow.Author.Needs.{needs}
 use Rattle.model.proofs.Tests.{never}
-use Rattle.judge_rules.proofs.contents.count_holds.Statement.{statement}
-use Rattle.judge_rules.proofs.contents.count_holds.Tie as tie
+use Rattle.judge_contents.proofs.count_holds.Statement.{statement}
+use Rattle.judge_contents.proofs.count_holds.Tie as tie
 
 pub count-holds-spec : {M : Type 1} → statement M
 count-holds-spec =

@@ -3,12 +3,14 @@ ghost use mathlib.Core.Logic.{_≢_};
 ghost use lib.ListN.{length};
 ghost use Rattle.model.specs.Index.{rules-in};
 ghost use Rattle.judge_order.specs.Order.{StateWords, states-of};
-ghost use Rattle.judge_rules.specs.Rules.{Ruled, RulesOf, ContentAt, CountedAt, CountIf, CountHolds, Tries};
-ghost use Rattle.judge_rules.specs.Found.{FindsTargets, FindsContent, Counted};
-use crate::numbers::Rules;
+ghost use Rattle.judge_rules.specs.Rules.{Ruled, RulesOf};
+ghost use Rattle.judge_contents.specs.Content.{ContentAt, CountedAt, CountIf, CountHolds, Tries};
+ghost use Rattle.judge_contents.specs.Content.{FindsTargets, FindsContent, Counted};
 use judge_count::count_fits;
 use judge_count::occurrences;
 use judge_order::read_order;
+use judge_rules::Found;
+use judge_rules::Rules;
 use layout::ENTRIES;
 use layout::wide;
 
@@ -57,12 +59,6 @@ fn try_rule(sheet: &[u32], at: usize, target: usize, words: &[u32], counts: &[u3
         fits: count_holds(&sheet[middle..target], counted, counts),
         reads,
     }
-}
-
-// A set of target states, and how many looks were taken to find it.
-pub struct Found {
-    pub targets: u64,
-    pub looks: usize,
 }
 
 // Try every kind-three rule, along their chain; the sheet has `rules` rules.
