@@ -1,13 +1,13 @@
 -- The words of a step, by its kind.
 use mathlib.Core.Path.{_≡_, refl, sym, _∙_}
 use mathlib.Core.List.{List, [], _∷_, _++_}
-use Prim.Native.Nat.{ℕ, _+_, _-_, _*_, _≤_, _<_}
+use Prim.Native.Nat.{ℕ, _+_, _-_, _≤_, _<_}
 use native.Mathlib.Omega.{arith}
 use lib.ListN.{length, getD, length-append}
 use lib.Seq.{slice}
 use borrow.Author.Tests as tests
 use Rattle.model.specs.Sheet.{Coefficient, Step, at-most, remainder, not-step, and-step, or-step}
-use Rattle.model.specs.Sheet.{W, signed-word, set-words, sum-words, step-words, SumInRange}
+use Rattle.model.specs.Sheet.{signed-word, set-words, sum-words, step-words, SumInRange}
 use Rattle.model.specs.Compose.{Side, Sizes, of-pairs, lift-sum, lift-step}
 use Rattle.model.specs.Spans.{WordsAt, SumAt, StepAt}
 use Rattle.model.proofs.Spans.{word-here, word-next, span-left, span-right}
@@ -16,8 +16,8 @@ use Rattle.parts.specs.Lengths.{step-length}
 use Rattle.join_pairs.specs.Sides.{side-of}
 use Rattle.join_pairs.proofs.NumberLaws.{few-side}
 use Rattle.join_count.specs.declared.Lift.{Lift}
-use Rattle.join_count.specs.Counts.{SumOf, SmallLift, states-of, SomeStep}
-use Rattle.join_count.proofs.SumWords.{sum-long, sum-of}
+use Rattle.join_count.specs.Counts.{SmallLift, states-of, SomeStep}
+use Rattle.join_count.proofs.SumWords.{sum-long}
 
 -- a step that ends before e and begins with a sum: as many words follow as its kind says
 pub record SumStep (p : ℕ) (s : List ℕ) (a e : ℕ) (x : Step) : Type 0 where
@@ -116,23 +116,18 @@ module _ {p a : ℕ} {s : List ℕ} where
   step-end few (or-step i j) h = (rw (word-here (h .there)) (sym (h .there .ends)), words-within (h .there) (omega arith))
 
 -- the step that the code is given, from a up to e
-module _ {l : Lift} {s : List ℕ} {a e : ℕ} (small : SmallLift l) (given : SomeStep l s a e) where
-  few-states : states-of l ≤ 64
-  few-states = few-side (small .few) (side-of (l .side))
+pub few-states : {l : Lift} → SmallLift l → states-of l ≤ 64
+few-states {l} small = few-side (small .few) (side-of (l .side))
 
+module _ {l : Lift} {s : List ℕ} {a e : ℕ} (small : SmallLift l) (given : SomeStep l s a e) where
   pub ends-here : (x : Step) (h : StepAt (states-of l) s a x) → e ≡ h .end
-  ends-here x h = given .ends ∙ step-end few-states x h .0
+  ends-here x h = given .ends ∙ step-end (few-states small) x h .0
 
   pub ends-within : e ≤ length s
-  ends-within = omega (arith, ends-here (given .step) (given .here), step-end few-states (given .step) (given .here) .1)
+  ends-within = omega (arith, ends-here (given .step) (given .here), step-end (few-states small) (given .step) (given .here) .1)
 
   pub sum-here : getD s a 0 ≤ 2 → (x : Step) → StepAt (states-of l) s a x → SumStep (states-of l) s a e x
   sum-here k x h = sum-step x h k (ends-here x h)
-
-  pub sum-found : {cs : List Coefficient} → SumAt (states-of l) s (a + 1) cs → {set b : ℕ}
-      → set ≡ getD s (a + 1) 0 + getD s (a + 1 + 1) 0 * W → b ≡ a + 1 + length (sum-words (states-of l) cs)
-      → SumOf (states-of l) s (record { marks = set; from = a + 1 + 2; to = b }) cs
-  sum-found h = sum-of few-states h
 
   pub refers-here : {k : ℕ} → k ≡ getD s a 0 → 2 < k → (x : Step) → StepAt (states-of l) s a x → Refers s a e x
   refers-here i k x h = refers x h (omega arith) (ends-here x h)

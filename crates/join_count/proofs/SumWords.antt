@@ -186,10 +186,6 @@ module _ {p a : ℕ} {s : List ℕ} {cs : List Coefficient} (few : p ≤ 64) (h 
 
 -- ---- the words of a lifted sum
 
-bit-mark : {p : ℕ} {s : List ℕ} {cs : List Coefficient} {x : SumHead} → SumOf p s x cs
-    → (q : ℕ) → q < p → bit (x .marks) q ≡ has (marks cs) q
-bit-mark {p} {cs = cs} h q l = ap (λ (n : ℕ). bit n q) (h .marks) ∙ bit-mask p (has (marks cs)) q l
-
 -- a pair is marked in a lifted sum if its half is marked
 has-lifted : (side : Side) (n : Sizes) (cs : List Coefficient) → Ascending (marks cs) → {x : ℕ} → x < of-pairs n
     → has (marks cs) (half side (n .of-T) x) ≡ has (marks (lift-sum side n cs)) x
@@ -243,7 +239,7 @@ pub lifted-sum-words : (side : Side) {n : Sizes} → FewPairs n → {s : List �
 unfolding sum-words set-words
 lifted-sum-words side {n} few {x = x} {cs} h {set} e =
     let marked : (y : ℕ) → y < of-pairs n → bit (x .marks) (half side (n .of-T) y) ≡ has (marks (lift-sum side n cs)) y
-    = λ y l. bit-mark h (half side (n .of-T) y) (half-below side n l) ∙ has-lifted side n cs (h .ranges .marked .ascends) l in
+    = λ y l. rw (h .marks) (bit-mask (of-side side n) (has (marks cs)) (half side (n .of-T) y) (half-below side n l)) ∙ has-lifted side n cs (h .ranges .marked .ascends) l in
     let all : set ≡ mask (of-pairs n) (has (marks (lift-sum side n cs)))
     = e ∙ set-lifted few (x .marks) side ∙ mask-like (of-pairs n) _ _ marked in
     rw (all, h .words, times-lifted n cs side (h .ranges .marked))

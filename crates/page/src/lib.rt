@@ -21,6 +21,7 @@ pub fn put(out: &mut [u32], at: usize, w: u32) -> usize
     }
     if at < out.len() {
         out[at] = w;
+        return at + 1;
     }
     at + 1
 }
@@ -54,13 +55,7 @@ pub fn copy(words: &[u32], from: usize, to: usize, out: &mut [u32], at: usize) -
 fn repeat_word(w: u32, n: u32, out: &mut [u32], at: usize) -> usize
     ensures { λ r. ⌜ Writes (now (out .entry)) at (repeated n (w ∷ [])) (now (out .exit)) r ⌝ }
 {
-    let mut next = at;
-    let mut left = n;
-    while 0 < left {
-        next = put(out, next, w);
-        left -= 1;
-    }
-    next
+    repeat_all(&[w], 0, 1, n, out, at)
 }
 
 // Writes the words from index `from` up to index `to`, as far as there are any, each `n` times in a row.

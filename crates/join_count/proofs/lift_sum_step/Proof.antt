@@ -4,7 +4,8 @@ use native.Mathlib.Omega.{arith}
 use denote.Ref.{now}
 use Rattle.page.proofs.PageLaws.{then, as-words}
 use Rattle.join_count.specs.Counts.{states-of}
-use Rattle.join_count.proofs.StepWords.{SumStep, sum-here, sum-found}
+use Rattle.join_count.proofs.SumWords.{sum-of}
+use Rattle.join_count.proofs.StepWords.{SumStep, few-states, sum-here}
 use borrow.Author.Needs.{needs}
 use Rattle.join_count.proofs.lift_sum_step.Statement.{statement}
 use Rattle.join_count.proofs.lift_sum_step.Tie as tie
@@ -36,7 +37,7 @@ lift-sum-step-spec =
     let (small, step, few) = start .pre in
     λ x h.
     let v = sum-here small step few x h in
-    let found = sum-found small step (v .sum) (set .set-at .ensures) (omega (arith, v .ends)) in
+    let found = sum-of (few-states small) (v .sum) (set .set-at .ensures) (omega (arith, v .ends)) in
     let tail = v .rest {b = start .args .end - kind .before .before .wide .result} (omega (arith, v .ends)) in
     as-words (v .lifted _ _ _ (read .at .ensures))
     (then (kind .put .ensures) (then (sum .lift-sum .ensures _ found) (as-words tail (rest .copy .ensures))))))
