@@ -12,7 +12,7 @@ use Rattle.model.specs.Compose.{Side, Sizes, of-pairs, lift-sum, lift-step}
 use Rattle.model.specs.Spans.{WordsAt, SumAt, StepAt}
 use Rattle.model.proofs.Spans.{word-here, word-next, span-left, span-right}
 use Rattle.model.proofs.PartLaws.{words-from, words-within}
-use Rattle.parts.specs.Lengths.{step-length}
+use Rattle.parts.specs.Lengths.{sum-length, step-length}
 use Rattle.join_pairs.specs.Sides.{side-of}
 use Rattle.join_pairs.proofs.NumberLaws.{few-side}
 use Rattle.join_count.specs.declared.Lift.{Lift}
@@ -97,20 +97,19 @@ module _ {p a : ℕ} {s : List ℕ} where
   refers (or-step i j) h l ends = two-numbers (h .there) (h .ranges) ends (λ side n shift. refl)
 
   -- its end, as the code tells it
-  sum-end : p ≤ 64 → {x : Step} (h : StepAt p s a x) → getD s a 0 ≤ 2 → SumStep p s a (h .end) x → a + step-length s a ≡ h .end
+  sum-end : p ≤ 64 → (x : Step) (h : StepAt p s a x) → getD s a 0 ≤ 2 → (a + step-length s a ≡ h .end) × (h .end ≤ length s)
   unfolding step-length
-  sum-end few h l v =
+  sum-end few x h l =
+      let v = sum-step x h l refl in
       let two : a + 1 + 1 ≡ a + 2 = omega arith in
-      rw (tests.le-leb (getD s a 0) 2 l) (omega (arith, rw two at (sum-long few (v .sum)), v .ends))
+      let end : a + (1 + sum-length (getD s (a + 1) 0) (getD s (a + 2) 0) + getD s a 0) ≡ h .end
+      = omega (arith, rw two at (sum-long few (v .sum)), v .ends) in
+      (rw (tests.le-leb (getD s a 0) 2 l) end, words-within (h .there) (omega (arith, v .ends, h .there .ends)))
 
   pub step-end : p ≤ 64 → (x : Step) (h : StepAt p s a x) → (a + step-length s a ≡ h .end) × (h .end ≤ length s)
   unfolding step-length step-words
-  step-end few (at-most cs b) h =
-      let l : getD s a 0 ≤ 2 = omega (arith, word-here (h .there)) in
-      (sum-end few h l (sum-step (at-most cs b) h l refl), words-within (h .there) (omega arith))
-  step-end few (remainder cs m r) h =
-      let l : getD s a 0 ≤ 2 = omega (arith, word-here (h .there)) in
-      (sum-end few h l (sum-step (remainder cs m r) h l refl), words-within (h .there) (omega arith))
+  step-end few (at-most cs b) h = sum-end few (at-most cs b) h (omega (arith, word-here (h .there)))
+  step-end few (remainder cs m r) h = sum-end few (remainder cs m r) h (omega (arith, word-here (h .there)))
   step-end few (not-step i) h = (rw (word-here (h .there)) (sym (h .there .ends)), words-within (h .there) (omega arith))
   step-end few (and-step i j) h = (rw (word-here (h .there)) (sym (h .there .ends)), words-within (h .there) (omega arith))
   step-end few (or-step i j) h = (rw (word-here (h .there)) (sym (h .there .ends)), words-within (h .there) (omega arith))

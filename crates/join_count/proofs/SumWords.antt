@@ -239,7 +239,8 @@ pub lifted-sum-words : (side : Side) {n : Sizes} → FewPairs n → {s : List �
 unfolding sum-words set-words
 lifted-sum-words side {n} few {x = x} {cs} h {set} e =
     let marked : (y : ℕ) → y < of-pairs n → bit (x .marks) (half side (n .of-T) y) ≡ has (marks (lift-sum side n cs)) y
-    = λ y l. rw (h .marks) (bit-mask (of-side side n) (has (marks cs)) (half side (n .of-T) y) (half-below side n l)) ∙ has-lifted side n cs (h .ranges .marked .ascends) l in
+    = λ y l. rw (h .marks) (bit-mask (of-side side n) (has (marks cs)) (half side (n .of-T) y) (half-below side n l)
+    ∙ has-lifted side n cs (h .ranges .marked .ascends) l) in
     let all : set ≡ mask (of-pairs n) (has (marks (lift-sum side n cs)))
     = e ∙ set-lifted few (x .marks) side ∙ mask-like (of-pairs n) _ _ marked in
     rw (all, h .words, times-lifted n cs side (h .ranges .marked))

@@ -14,10 +14,9 @@ use Rattle.model.proofs.RuleWords.{order-room}
 use Rattle.model.proofs.Spans.{word-here, span-right}
 use Rattle.parts.specs.Lengths.{order-length}
 use Rattle.sets.specs.Sets.{pair-set}
-use Rattle.join_order.specs.Arcs.{lifted-arc, lifted-grid, paired-arc}
+use Rattle.join_order.specs.Orders.{lifted-arc, lifted-grid, paired-arc, arcs-in, HeadOf, PairableArcs, paired-grid}
 use Rattle.join_order.specs.declared.OrderHead.{OrderHead}
 use Rattle.model.specs.Spans.{OrderAt}
-use Rattle.join_order.specs.Orders.{arcs-in, HeadOf, PairableArcs, paired-grid}
 use Rattle.join_pairs.specs.Sides.{FewPairs}
 use Rattle.join_pairs.proofs.NumberLaws.{mul-le, few-S, few-T, few-side, few-other}
 use Rattle.sets.proofs.SetLaws.{few-pairs, pairs-mask}

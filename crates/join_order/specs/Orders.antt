@@ -1,20 +1,38 @@
--- Order parts among the words of the two sheets, and what is written of them.
+-- Order parts among the words of the two sheets, and what is written of them: lifted and paired arcs by the words of the arcs.
 use mathlib.Core.Path.{_≡_}
 use mathlib.Core.List.{List, map}
 use Prim.Native.Nat.{ℕ, _*_, _≤_}
 use lib.ListN.{length}
 use lib.Seq.{slice}
-use Rattle.model.specs.Lists.{has, grid}
-use Rattle.model.specs.Sheet.{Order, mask, arc-word, order-words}
-use Rattle.model.specs.Compose.{of-side, lift-order, pair-order}
+use Rattle.model.specs.Lists.{has, numbers, row, grid}
+use Rattle.model.specs.Sheet.{Order, mask, arc-word, arc-of, order-words}
+use Rattle.model.specs.Compose as model
+use Rattle.model.specs.Compose.{of-side, of-other, lift-arc, lift-order, pair-arc, pair-order}
 use Rattle.model.specs.Spans.{OrderAt}
 use Rattle.join_pairs.specs.declared.Side.{Side}
 use Rattle.join_pairs.specs.declared.Sizes.{Sizes}
 use Rattle.join_pairs.specs.declared.Places.{Places}
 use Rattle.join_pairs.specs.Sides.{side-of, sizes-of}
-use Rattle.join_order.specs.Arcs.{paired-arc}
 use Rattle.join_order.specs.declared.OrderHead.{OrderHead}
 use Rattle.join_order.specs.declared.Heads.{Heads}
+
+-- ---- arcs
+
+abbrev pub lifted-arc : model.Side → model.Sizes → ℕ → ℕ → ℕ
+lifted-arc side n w other = arc-word (lift-arc side n (arc-of w) other)
+
+-- an arc, and all of some arcs, once for each state of the other sheet
+abbrev pub lifted-row : model.Side → model.Sizes → ℕ → List ℕ
+lifted-row side n w = row (lifted-arc side n) (numbers (of-other side n)) w
+
+abbrev pub lifted-grid : model.Side → model.Sizes → List ℕ → List ℕ
+lifted-grid side n ws = grid (lifted-arc side n) ws (numbers (of-other side n))
+
+-- m: positions of T's part; p: states of T
+abbrev pub paired-arc : (m p v w : ℕ) → ℕ
+paired-arc m p v w = arc-word (pair-arc m p (arc-of v) (arc-of w))
+
+-- ---- order parts
 
 -- an order part over p states is at a
 abbrev pub SomeOrder : ℕ → List ℕ → ℕ → Type 0

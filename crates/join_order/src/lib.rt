@@ -9,7 +9,7 @@ ghost use Rattle.model.specs.Compose.{of-side};
 ghost use Rattle.model.specs.Spans.{OrderAt};
 ghost use Rattle.page.specs.Page.{Writes};
 ghost use Rattle.join_pairs.specs.Sides.{side-of, sizes-of, FewPairs};
-ghost use Rattle.join_order.specs.Arcs.{lifted-arc, lifted-row, lifted-grid, paired-arc};
+ghost use Rattle.join_order.specs.Orders.{lifted-arc, lifted-row, lifted-grid, paired-arc};
 ghost use Rattle.join_order.specs.Orders.{SomeOrder, PairableOrders, LiftsOrder, PairsOrders};
 ghost use Rattle.join_order.specs.Orders.{arcs-in, HeadOf, PairableArcs, paired-grid};
 use join_pairs::Places;

@@ -26,9 +26,7 @@ use Rattle.sets.specs.Sets.{all-below, complement, pair-set}
 mask-parts : (a b : ℕ) (f : ℕ → Bool) → mask (a + b) f ≡ mask a f + mask b (λ i. f (a + i)) * 2 ^ a
 unfolding mask
 mask-parts zero b f =
-    let e : 0 + b ≡ b = omega arith in
-    let same : mask b f ≡ mask b (λ i. f (0 + i)) = mask-like b f (λ i. f (0 + i)) (λ i _. ap f (sym (zero-add i))) in
-    ap (λ (k : ℕ). mask k f) e ∙ omega arith
+    rw (zero-add b) (omega (arith, mask-like b f (λ i. f (0 + i)) (λ i _. ap f (sym (zero-add i)))))
 mask-parts (suc a) b f =
     let e : suc a + b ≡ suc (a + b) = omega arith in
     let high = mask b (λ i. f (suc (a + i))) in

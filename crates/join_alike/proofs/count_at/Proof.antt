@@ -13,12 +13,11 @@ count-at-spec =
     (λ c. omega (arith, spot-there (c .before .before .before .pre)))
     (λ c. omega (arith, spot-there (c .before .before .before .pre)))
     (λ c κs. search needs)
-    (λ c. omega (
-      arith,
-      order-end (c .before .before .before .before .pre) (c .before .before .with-order .ensures)
-          (c .before .if1 .taken) (c .order-length .ensures) .1,
-    ))
-    (λ c. order-end (c .before .before .before .before .pre) (c .before .before .with-order .ensures) (c .before .if1 .taken)
-    (c .order-length .ensures) .0)
+    (λ c.
+    let told = c .before .before in
+    omega (arith, order-end (told .before .before .pre) (told .with-order .ensures) (c .before .if1 .taken) (c .order-length .ensures) .1))
+    (λ c.
+    let told = c .before .before in
+    order-end (told .before .before .pre) (told .with-order .ensures) (c .before .if1 .taken) (c .order-length .ensures) .0)
     (λ c. omega (arith, spot-there (c .before .before .before .pre)))
     (λ c. search (no-order-end, needs)))

@@ -3,8 +3,7 @@ use mathlib.Core.Path.{refl}
 use Prim.Native.Nat.{_-_}
 use lib.Seq.{slice}
 use Rattle.join_pairs.specs.Sides.{side-of, sizes-of}
-use Rattle.join_order.specs.Arcs.{lifted-grid}
-use Rattle.join_order.specs.Orders.{arcs-in}
+use Rattle.join_order.specs.Orders.{lifted-grid, arcs-in}
 use Rattle.page.proofs.PageLaws.{Left, begun, more, done, kept, slice-at, slice-none, grid-next, grid-none}
 use borrow.Author.Needs.{needs}
 use Rattle.join_order.proofs.lift_arcs.Statement.{statement}

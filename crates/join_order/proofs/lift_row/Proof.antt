@@ -4,7 +4,7 @@ use native.Mathlib.Omega.{arith}
 use Rattle.model.specs.Lists.{from, numbers, row}
 use Rattle.model.specs.Compose.{of-other}
 use Rattle.join_pairs.specs.Sides.{side-of, sizes-of}
-use Rattle.join_order.specs.Arcs.{lifted-arc}
+use Rattle.join_order.specs.Orders.{lifted-arc}
 use Rattle.page.proofs.PageLaws.{Left, begun, more, done, kept, from-start, from-next, from-none, row-like, row-next, row-none}
 use Rattle.join_pairs.proofs.NumberLaws.{few-other}
 use borrow.Author.Needs.{needs}

@@ -3,8 +3,7 @@ use mathlib.Core.Path.{refl}
 use Prim.Native.Nat.{_-_}
 use lib.Seq.{slice}
 use Rattle.model.specs.Lists.{grid}
-use Rattle.join_order.specs.Arcs.{paired-arc}
-use Rattle.join_order.specs.Orders.{arcs-in, paired-grid}
+use Rattle.join_order.specs.Orders.{paired-arc, arcs-in, paired-grid}
 use Rattle.page.proofs.PageLaws.{Left, begun, more, done, kept, slice-at, slice-none, grid-next, grid-none}
 use borrow.Author.Needs.{needs}
 use Rattle.join_order.proofs.pair_arcs.Statement.{statement}
