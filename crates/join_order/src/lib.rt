@@ -9,7 +9,7 @@ ghost use Rattle.model.specs.Compose.{of-side};
 ghost use Rattle.model.specs.Spans.{OrderAt};
 ghost use Rattle.page.specs.Page.{Writes};
 ghost use Rattle.join_pairs.specs.Sides.{side-of, sizes-of, FewPairs};
-ghost use Rattle.join_order.specs.Orders.{lifted-arc, lifted-row, lifted-grid, paired-arc};
+ghost use Rattle.join_order.specs.Orders.{lifted-row, lifted-grid, paired-arc};
 ghost use Rattle.join_order.specs.Orders.{SomeOrder, PairableOrders, LiftsOrder, PairsOrders};
 ghost use Rattle.join_order.specs.Orders.{arcs-in, HeadOf, PairableArcs, paired-grid};
 use join_pairs::Places;
@@ -38,26 +38,18 @@ fn arc_word(leaves: u32, reads: u32, enters: u32) -> u32
     leaves * TWO_BYTES + reads * BYTE + enters
 }
 
-// An arc that reads a state beside a state of the other sheet.
-fn lift_arc(w: u32, side: Side, sizes: Sizes, other: u32) -> u32
-    requires { ⌜ FewPairs (sizes-of sizes) × (other ≤ 255) ⌝ }
-    ensures { λ r. ⌜ r ≡ lifted-arc (side-of side) (sizes-of sizes) w other ⌝ }
-{
-    let arc = bits::arc_of(w);
-    let reads = beside(side, sizes.t, arc.reads, other);
-    arc_word(arc.leaves, reads, arc.enters)
-}
-
-// Writes an arc once for each state of the other sheet.
+// Writes an arc once for each state of the other sheet, reading its state beside that one.
 fn lift_row(w: u32, side: Side, sizes: Sizes, out: &mut [u32], at: usize) -> usize
     requires { ⌜ FewPairs (sizes-of sizes) ⌝ }
     ensures { λ r. ⌜ Writes (now (out .entry)) at (lifted-row (side-of side) (sizes-of sizes) w) (now (out .exit)) r ⌝ }
 {
     let n = of_other(side, sizes);
+    let arc = bits::arc_of(w);
     let mut next = at;
     let mut other = 0;
     while other < n {
-        next = put(out, next, lift_arc(w, side, sizes, other));
+        let reads = beside(side, sizes.t, arc.reads, other);
+        next = put(out, next, arc_word(arc.leaves, reads, arc.enters));
         other += 1;
     }
     next
