@@ -1,4 +1,5 @@
--- Rules chained by a key: of each key the first rule, and behind each rule the next with its key. What is passed over along a chain, and how chains are made.
+-- Rules chained by a key: of each key the first rule, and behind each rule the next with its key. What is passed over along a chain,
+-- and how chains are made.
 use mathlib.Core.Path.{_≡_, refl, sym, ap, _∙_}
 use mathlib.Core.Logic.{_≢_}
 use mathlib.Core.List.{List, [], _∷_, _++_, flatMap}
@@ -35,7 +36,8 @@ pub past : {key : Rule → ℕ} {xs : List Rule} {B : Type 0} (f : Rule → List
     → {a i : ℕ} → First key xs k a i → flatMap f (drop a xs) ≡ flatMap f (drop i xs)
 past {xs = xs} f apart {a} {i} h = skip f xs a i (h .later) (λ j m n. apart (nth xs j) (h .least j m n))
 
--- the rules from index a on are chained by keys below `keys`: `heads` has the first of each key, and `read` finds the next with a rule's key in the rule's entry of `nexts`
+-- the rules from index a on are chained by keys below `keys`: `heads` has the first of each key, and `read` finds the next with a rule's
+-- key in the rule's entry of `nexts`
 pub record ChainedBy (key : Rule → ℕ) (keys : ℕ) (read : ℕ → ℕ) (xs : List Rule) (heads nexts : List ℕ) (a : ℕ) : Type 0 where
   pub wide : length heads ≡ keys
   pub room : length xs ≤ length nexts

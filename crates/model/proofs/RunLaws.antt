@@ -203,7 +203,8 @@ module _ (R : List Rule) where
   judged (with-text {n = n} {k = k} {w = w} {l = l} h t) = text-judged n k w l h (run R (map item l)) (judged t)
   judged (with-tag {n = n} {a = a} {w = w} {d = d} l h t) = tag-judged n a w d l h (run R (map item (nodesD d ++ l))) (judged t)
 
--- What the run says of a tree: no node reaches two states, and these are the nodes' state words; or which is the highest-numbered node that reaches two.
+-- What the run says of a tree: no node reaches two states, and these are the nodes' state words; or which is the highest-numbered node
+-- that reaches two.
 abbrev pub RunSays : List Rule → Element → Ran → Type 0
 RunSays R e (ran st m) = Single R (nodes e) × StatesOf R (nodes e) st × (m ≤ 2 * size e * length R)
 RunSays R e (two-at i) = Highest (ReachesTwo R) (AtMostOne R) (nodes e) i

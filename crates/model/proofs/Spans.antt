@@ -1,4 +1,5 @@
--- Words that stand in a list from one index to another, and readers: what a reader gets stands there as its words, and the words of a part are read as that part.
+-- Words that stand in a list from one index to another, and readers: what a reader gets stands there as its words, and the words of a
+-- part are read as that part.
 use mathlib.Core.Path.{_≡_, refl, sym, ap, _∙_, subst}
 use mathlib.Core.Bool.{Bool, true, false, cond, _&&_}
 use mathlib.Core.List.{List, [], _∷_, _++_, map, flatMap, append-assoc, append-nil, List·Memᴰ·head, List·Memᴰ·tail, List·Memᴰ·not-nil}

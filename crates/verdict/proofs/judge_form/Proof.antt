@@ -1,4 +1,5 @@
--- `judge_form` meets its contract: each answer is that of the checks on the way, and the tree that was read stands at the front of its array.
+-- `judge_form` meets its contract: each answer is that of the checks on the way, and the tree that was read stands at the front of its
+-- array.
 use mathlib.Core.Path.{sym, _∙_}
 use native.Mathlib.Omega.{arith}
 use lib.Seq.{length-take-le}
