@@ -45,7 +45,8 @@ lift-row-spec =
     let loop = pair .before .before in
     let (leaves, reads, enters) = loop .before .arc-of .ensures in
     more (loop .loop .inv)
-    (row-next _ _ (from-next _ _ (pair .before .loop-test .taken)) (rw (put .before .arc-word .ensures, pair .beside .ensures .0, leaves, reads, enters)))
+    (row-next _ _ (from-next _ _ (pair .before .loop-test .taken))
+    (rw (put .before .arc-word .ensures, pair .beside .ensures .0, leaves, reads, enters)))
     (put .put .ensures))
     (λ c. search (kept, needs))
     (λ c. search (done, row-none, from-none, needs)))
