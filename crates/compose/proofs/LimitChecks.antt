@@ -56,12 +56,9 @@ abbrev all-at-most : (Rule → ℕ) → ℕ → List Rule → Bool
 all-at-most f k rs = every (λ r. leb (f r) k) rs
 
 module _ (j : Sheet) (few : j .states ≤ 64) where
-  abbrev by : ((a b c d : Bool) → Checked (Unit {0}) → Type 0) → Type 0
-  by P =
-      P (leb (length (j .rules)) 1024) (all-at-most positions-of 64 (j .rules)) (all-at-most arcs-of 1024 (j .rules))
+  after-states : within-limits j
+      ≡ checks (leb (length (j .rules)) 1024) (all-at-most positions-of 64 (j .rules)) (all-at-most arcs-of 1024 (j .rules))
       (all-at-most steps-of 32 (j .rules)) (require (leb (length (sheet-words j)) 16384) 21 6)
-
-  after-states : by (λ a b c d e. within-limits j ≡ checks a b c d e)
   unfolding within-limits require _>>_
   after-states = rw (tests.le-leb (j .states) 64 few)
 

@@ -20,4 +20,5 @@ swap-spec =
     (λ c.
     let room = c .before .before .before .before in
     let counted = room .before .before in
-    swap-written _ _ (counted .before .before .check .ensures) (counted .n .given .1) (room .if1 .left) (c .before .before .put-swapped .ensures)))
+    swap-written _ _ (counted .before .before .check .ensures) (counted .n .given .1) (room .if1 .left)
+    (c .before .before .put-swapped .ensures)))
