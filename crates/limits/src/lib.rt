@@ -1,14 +1,10 @@
-// The limits of refusal 21: the first that a rule exceeds, and the words of a sheet. Every function is total.
+// The limits of refusal 21 by their places, and the first that a rule exceeds.
 ghost use mathlib.Core.Path.{_≡_};
 ghost use lib.Dec.{leb};
-ghost use Rattle.model.specs.Answers.{said};
-ghost use Rattle.limits.specs.Limits.{first-of, words-said};
+ghost use Rattle.limits.specs.Limits.{first-of};
 use layout::MOST_ARCS;
 use layout::MOST_POSITIONS;
 use layout::MOST_STEPS;
-use layout::MOST_WORDS;
-use model::Answer;
-use model::Refusal;
 
 // The places of the limits of refusal 21.
 pub const PLACE_STATES: usize = 1;
@@ -37,17 +33,4 @@ pub fn first_over(positions: u32, arcs: u32, steps: u32) -> usize
         return PLACE_STEPS;
     }
     PLACE_WORDS
-}
-
-// The number of words that a sheet needs: 21 over the most of a sheet, or 22 over the room of a buffer.
-pub fn check_words(needed: usize, room: usize) -> Answer
-    ensures { λ r. ⌜ said r ≡ words-said needed room ⌝ }
-{
-    if MOST_WORDS < needed {
-        return Answer::Error(Refusal::JointLimit(PLACE_WORDS));
-    }
-    if room < needed {
-        return Answer::Error(Refusal::ShortBuffer(needed));
-    }
-    Answer::Count(needed)
 }
