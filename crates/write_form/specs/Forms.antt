@@ -9,7 +9,7 @@ use Rattle.model.specs.Lists.{every}
 use Rattle.model.specs.Names.{names-of}
 use Rattle.model.specs.Tree.{Document, nodesD, children}
 use Rattle.model.specs.Written.{writtenD, good-words}
-use Rattle.names.specs.Lines.{Indexed}
+use Rattle.offsets.specs.Lines.{Indexed}
 use Rattle.write_bytes.specs.Put.{Put}
 use Rattle.write_form.specs.declared.Siblings.{Siblings}
 

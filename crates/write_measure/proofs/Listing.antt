@@ -17,7 +17,7 @@ use Rattle.model.specs.Written.{good-words, texts-checked}
 use Rattle.model.proofs.SymbolLaws.{text≢tag, tag-said}
 use Rattle.model.proofs.Tests.{Told, yea, nay, told, same, eqb-no}
 use Rattle.model.proofs.TreeLaws.{length-nodesD}
-use Rattle.names.specs.Lines.{Indexed}
+use Rattle.offsets.specs.Lines.{Indexed}
 use Rattle.write_nodes.specs.Nodes.{node-at, TagOf}
 use Rattle.write_nodes.proofs.FirstLaws.{First, a-text, an-element, first, some-size}
 use Rattle.write_texts.specs.TextWords.{good-by, good-node}

@@ -5,7 +5,7 @@ use native.Mathlib.Omega.{arith}
 use lib.ListN.{length}
 use Rattle.model.specs.Names.{name-of}
 use Rattle.model.proofs.NameLaws.{few-names, name-short}
-use Rattle.names.proofs.IndexLaws.{Lies, name-lies}
+use Rattle.offsets.proofs.IndexLaws.{Lies, name-lies}
 use Rattle.write_nodes.specs.Nodes.{Tag}
 
 module _ {list starts : List ℕ} {a : ℕ} (t : Tag list starts a) where

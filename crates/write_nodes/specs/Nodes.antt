@@ -5,7 +5,7 @@ use Prim.Native.Nat.{ℕ, _≤_}
 use Rattle.model.specs.Answers.{passes}
 use Rattle.model.specs.Names.{names-of}
 use Rattle.model.specs.Tree.{Span, symbol-at, size-at, span-at, of-tag, symbol-of}
-use Rattle.names.specs.Lines.{Indexed}
+use Rattle.offsets.specs.Lines.{Indexed}
 use Rattle.write_nodes.specs.declared.Node.{Node}
 
 -- the four words of node i

@@ -7,7 +7,7 @@ ghost use Rattle.model.specs.Names.{name-of};
 ghost use Rattle.write_nodes.specs.Nodes.{node-at, Tag};
 
 // An entry for each line of a name list, and one more.
-pub type PerName = [usize; names::MOST_NAMES + 1];
+pub type PerName = [usize; offsets::MOST_NAMES + 1];
 
 // The four words of a node.
 pub struct Node {
@@ -31,7 +31,7 @@ pub fn node_at(tree: &[u32], i: usize) -> Node
 }
 
 // The name of a tag, by the index of a name list. A tree that passed its check has no other tags, so nothing is tested here, as
-// `names::name_of` does for any number.
+// `tags::name_of` does for any number.
 pub fn name_of<'a>(list: &'a [u8], starts: &PerName, tag: u32) -> &'a [u8]
     requires { ⌜ Tag (now list) (now starts) tag ⌝ }
     ensures { λ r. ⌜ now r ≡ name-of (now (list .entry)) tag ⌝ }

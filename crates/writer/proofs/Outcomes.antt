@@ -18,7 +18,7 @@ use Rattle.model.specs.declared.Refusal.the-variants.{LongText, ShortBuffer, Lo
 use Rattle.model.proofs.Answered.{counted, refused, names-refused, tree-refused}
 use Rattle.model.proofs.CheckLaws.{refuses≢passes, passes-inj, then-inv}
 use Rattle.model.proofs.DocumentLaws.{GoodNodes, texts-good}
-use Rattle.names.specs.Lines.{Indexed}
+use Rattle.offsets.specs.Lines.{Indexed}
 use Rattle.write_measure.specs.Lengths.{measured}
 use Rattle.write_bytes.proofs.Stores.{put-front}
 use Rattle.write_form.specs.Forms.{Ready, Puts}

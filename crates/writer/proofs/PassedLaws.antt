@@ -20,7 +20,7 @@ use Rattle.model.proofs.NameLaws.{few-names}
 use Rattle.model.proofs.Tests.{Yes, and-left, and-right, same}
 use Rattle.model.proofs.TreeLaws.{length-nodes, length-words, tree-passes}
 use Rattle.model.proofs.TreeView.{tag-no-text, look-end, look-element, children-seen}
-use Rattle.names.specs.Lines.{Indexed}
+use Rattle.offsets.specs.Lines.{Indexed}
 use Rattle.write_nodes.proofs.FirstLaws.{some-size}
 use Rattle.write_measure.specs.Lengths.{measured, Tags}
 use Rattle.write_measure.proofs.LengthLaws.{total, length-written}

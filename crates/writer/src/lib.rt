@@ -38,8 +38,8 @@ fn write_passed(list: &[u8], text: &[u8], tree: &[u32], nodes: usize, out: &mut 
     ensures buffer { λ r. ⌜ now (out .exit) ≡ write-out (now (list .entry)) (now (text .entry)) (now (tree .entry)) (now (out .entry)) ⌝ }
 {
     // where each name lies, found once
-    let mut starts = [0usize; names::MOST_NAMES + 1];
-    names::index(list, &mut starts);
+    let mut starts = [0usize; offsets::MOST_NAMES + 1];
+    offsets::index(list, &mut starts);
     let bytes = match measure(list, &starts, text, tree) {
         Answer::Count(bytes) => bytes,
         Answer::Error(refusal) => {
