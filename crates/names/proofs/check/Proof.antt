@@ -29,13 +29,15 @@ check-spec =
     (λ c. search needs)
     (λ c κs. search needs)
     (λ c. (omega arith, check-first _ (c .before .before .before .before .if1 .left), table-none _ (c .before .index .ensures .1)))
-    (λ c κs. (c .before .before .before .before .before .before .before .classes .ensures, (omega arith, c .before .before .before .loop .inv .2)))
+    (λ c κs.
+    let top = c .before .before .before in
+    (top .before .before .before .before .classes .ensures, (omega arith, top .loop .inv .2)))
     (λ c. omega arith)
     (λ c. omega arith)
     (λ c.
     let bad = not-true _ (c .if2 .taken) in
-    said-bad _ _ (after-line _ _ _ bad (c .before .enter .ensures .1) .index) _ (c .before .before .before .before .before .loop .inv .1) (omega arith)
-    (sym (c .before .enter .ensures .0) ∙ bad))
+    said-bad _ _ (after-line _ _ _ bad (c .before .enter .ensures .1) .index) _ (c .before .before .before .before .before .loop .inv .1)
+    (omega arith) (sym (c .before .enter .ensures .0) ∙ bad))
     (λ c. omega arith)
     (λ c. omega arith)
     (λ c.

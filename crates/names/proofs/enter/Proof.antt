@@ -31,13 +31,15 @@ enter-spec =
     (λ c.
     let start = c .before .before .before .before .before .before .before .before .before .before .before in
     let line = c .before .before .before .before .before in
+    let chain = c .before .before .before .before .bucket .ensures in
     told-repeated (start .pre .1 .1) (start .pre .1 .0) (line .before .before .before .name-of .ensures) (line .before .named-line .ensures)
-    (not-false _ (line .if1 .left)) (c .before .before .before .before .bucket .ensures .0) (c .before .before .before .before .bucket .ensures .1) (c .before .find-chained .ensures)
+    (not-false _ (line .if1 .left)) (chain .0) (chain .1) (c .before .find-chained .ensures)
     (c .if2 .taken))
     (λ c κs. search needs)
     (λ c.
     let start = c .before .before .before .before .before .before .before .before .before .before .before .before .before in
     let line = c .before .before .before .before .before .before .before in
+    let chain = c .before .before .before .before .before .before .bucket .ensures in
     told-entered (start .pre .1 .1) (start .pre .1 .0) (line .before .before .before .name-of .ensures) (line .before .named-line .ensures)
-    (not-false _ (line .if1 .left)) (c .before .before .before .before .before .before .bucket .ensures .0) (c .before .before .before .before .before .before .bucket .ensures .1)
+    (not-false _ (line .if1 .left)) (chain .0) (chain .1)
     (c .before .before .before .find-chained .ensures) (c .before .before .if2 .left) (c .link .ensures)))

@@ -14,7 +14,8 @@ use Rattle.offsets.proofs.index.Tie as tie
 
 abbrev Inv-loop : tie.InvT-loop
 Inv-loop list starts₀ at₀ k₀ starts at k =
-    (k ≤ 64) × Begins list k at × (sets starts k (starts-from list k) ≡ sets starts₀ 0 (line-starts list)) × (length starts ≡ length starts₀)
+    (k ≤ 64) × Begins list k at × (sets starts k (starts-from list k) ≡ sets starts₀ 0 (line-starts list)) ×
+    (length starts ≡ length starts₀)
 
 abbrev μ-loop : tie.MeasureT-loop
 μ-loop list starts₀ at₀ k₀ starts at k = 64 - k
@@ -28,18 +29,24 @@ index-spec =
     (λ c. (omega arith, begins-first _, rw sub-zero, refl))
     (λ c κs. search needs)
     (λ c. search needs)
-    (λ c. write-last _ _ _ _ _ _ (c .before .before .before .before .before .before .loop .inv .1) (c .before .before .before .before .before .before .loop .inv .2) (c .before .before .before .put .ensures)
-    (omega (arith, begins-none _ _ _ (c .before .before .before .before .before .before .loop .inv .1) (c .if1 .taken))))
+    (λ c.
+    let top = c .before .before .before .before .before .before .loop .inv in
+    write-last _ _ _ _ _ _ (top .1) (top .2) (c .before .before .before .put .ensures)
+    (omega (arith, begins-none _ _ _ (top .1) (c .if1 .taken))))
     (λ c κs. search needs)
     (λ c. omega arith)
     (λ c. omega arith)
-    (λ c. (
+    (λ c.
+    let top = c .before .before .before .before .before .before .before .loop .inv in
+    let more = c .before .if1 .left in (
       omega arith,
-      begins-next _ _ _ (c .before .before .before .before .before .before .before .loop .inv .1) _ (line-cut _ _ _ (c .before .if1 .left) (c .line-end .ensures)),
-      write-next _ _ _ _ _ _ (c .before .before .before .before .before .before .before .loop .inv .1) (c .before .before .before .before .before .before .before .loop .inv .2)
-          (c .before .before .before .before .put .ensures) (omega (arith, begins-some _ _ _ (c .before .before .before .before .before .before .before .loop .inv .1) (c .before .if1 .left))),
+      begins-next _ _ _ (top .1) _ (line-cut _ _ _ more (c .line-end .ensures)),
+      write-next _ _ _ _ _ _ (top .1) (top .2) (c .before .before .before .before .put .ensures)
+          (omega (arith, begins-some _ _ _ (top .1) more)),
       search needs,
     ))
     (λ c κs. search needs)
     (λ c. search needs)
-    (λ c. write-last _ _ _ _ _ _ (c .before .before .before .before .before .loop .inv .1) (c .before .before .before .before .before .loop .inv .2) (c .before .before .put2 .ensures) (omega arith)))
+    (λ c.
+    let top = c .before .before .before .before .before .loop .inv in
+    write-last _ _ _ _ _ _ (top .1) (top .2) (c .before .before .put2 .ensures) (omega arith)))

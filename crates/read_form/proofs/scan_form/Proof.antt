@@ -12,11 +12,14 @@ scan-form-spec =
     (λ c. search needs)
     (λ c κs. search needs)
     (λ c κs. (c .before .before .index .ensures .0, table-none _ (c .before .before .index .ensures .1)))
-    (λ c κs. (c .before .before .before .before .before .before .classes .ensures, c .before .before .before .before .before .before .before .before .before .pre .1 .0))
+    (λ c κs.
+    let set-up = c .before .before .before .before .before .before in
+    (set-up .classes .ensures, set-up .before .before .before .pre .1 .0))
     (λ c κs. search needs)
     (λ c.
     let start = c .before .before .before .before .before .before .before .before .before .before .before .before .before in
-    rw (c .refusal-of .ensures) (c .before .before .before .root .ensures _ (start .args .words .now) (start .pre .1 .1) .stopped (c .before .if1 .taken)))
+    rw (c .refusal-of .ensures)
+    (c .before .before .before .root .ensures _ (start .args .words .now) (start .pre .1 .1) .stopped (c .before .if1 .taken)))
     (λ c κs.
     let start = c .before .before .before .before .before .before .before .before .before .before .before .before .before .before .before in
     let chained = c .before .before .before .before .before .before .before in (

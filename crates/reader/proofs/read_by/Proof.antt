@@ -23,4 +23,8 @@ read-by-spec =
     (λ c. refused-form _ _ _ (c .before .before .before .before .before .before .before .before .before .pre)
     (rw (c .before .scanned .given .1) at (c .before .before .before .scan-form .ensures)))
     (λ c. search needs)
-    (λ c. filled _ _ _ (c .before .before .before .before .before .before .before .before .before .before .before .before .before .before .before .pre) (rw (c .before .before .before .before .before .before .before .scanned2 .given .1) at (c .before .before .before .before .before .before .before .before .before .scan-form .ensures)) (c .before .before .before .before .before .if2 .left) (c .before .before .unpack .ensures)))
+    (λ c.
+    let counted = c .before .before .before .before .before .before .before in
+    let start = counted .before .before .before .before .before .before .before .before in
+    filled _ _ _ (start .pre) (rw (counted .scanned2 .given .1) at (counted .before .before .scan-form .ensures))
+    (c .before .before .before .before .before .if2 .left) (c .before .before .unpack .ensures)))

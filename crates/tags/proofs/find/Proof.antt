@@ -1,8 +1,6 @@
 -- `tags::find` meets its contract.
-use mathlib.Core.Path.{ap, _∙_}
-use Prim.Native.Nat.{ℕ}
+use mathlib.Core.Path.{_∙_}
 use borrow.Author.Needs.{needs}
-use Rattle.tags.specs.Tables.{first-of, along}
 use Rattle.tags.proofs.find.Statement.{statement}
 use Rattle.tags.proofs.find.Tie as tie
 
