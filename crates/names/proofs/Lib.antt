@@ -1,2 +1,1 @@
-pub mod IndexLaws
 mod Checks

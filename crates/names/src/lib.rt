@@ -1,4 +1,4 @@
-// The name list: its check, and where its lines begin.
+// The check of a name list: refusal 8.
 use model::Answer;
 use model::Refusal;
 use name_line::named_line;
@@ -6,16 +6,12 @@ use tags::Table;
 ghost use mathlib.Core.Path.{_≡_};
 ghost use mathlib.Core.Bool.{cond};
 ghost use Prim.Native.Nat.{_+_, _<_};
-ghost use lib.Seq.{sets};
 ghost use Rattle.model.specs.Answers.{said};
 ghost use Rattle.model.specs.Calls.{names-said};
 ghost use Rattle.model.specs.Names.{lines, good-line};
 ghost use Rattle.chars.specs.Table.{table};
-ghost use Rattle.offsets.specs.Lines.{line, line-count, line-starts};
+ghost use Rattle.offsets.specs.Lines.{line, line-count};
 ghost use Rattle.tags.specs.Tables.{TableOf};
-
-// The most names a list may have.
-pub const MOST_NAMES: usize = offsets::MOST_NAMES;
 
 // The number of names, or the first line that is not in order.
 pub fn check(list: &[u8]) -> Answer
@@ -40,15 +36,6 @@ pub fn check(list: &[u8]) -> Answer
         return Answer::Error(Refusal::NameList(end));
     }
     Answer::Count(good)
-}
-
-// The number of lines, counted up to 64. The offsets where they begin, and where the last of them ends, are written to the front
-// of `starts`: `sets l i vs` is l with vs from place i on.
-pub fn index(list: &[u8], starts: &mut [usize; MOST_NAMES + 1]) -> usize
-    ensures lines { λ r. ⌜ r ≡ line-count (now (list .entry)) ⌝ }
-    ensures starts { λ r. ⌜ now (starts .exit) ≡ sets (now (starts .entry)) 0 (line-starts (now (list .entry))) ⌝ }
-{
-    offsets::index(list, starts)
 }
 
 // Whether line k is a name of at most 24 bytes and a line feed, and no line before it holds the name. If so, its tag becomes the
