@@ -10,13 +10,12 @@ use Rattle.model.specs.declared.Answer.{Answer}
 use Rattle.model.specs.declared.Answer.the-variants.{Count}
 use Rattle.model.specs.declared.Judgement.{Judgement}
 use Rattle.model.specs.Lists.{_∈_}
-use Rattle.model.specs.Answers.{passes, said-judgement}
+use Rattle.model.specs.Answers.{passes, said-judgement, looks-in}
 use Rattle.model.specs.Tree.{Element, size, tree-of}
 use Rattle.model.specs.Sheet.{Sheet, sheet-of}
 use Rattle.model.specs.Compose.{pair, swapped, joint}
 use Rattle.model.specs.Calls.{swap, join}
 use Rattle.model.proofs.Answered.{Promised, front-left}
-use Rattle.model.specs.Answers.{looks-in}
 use Rattle.model.proofs.Demand3.{Reading, Sheet-on, TakesTo, AcceptsIt, NoTwo, join-passes, swap-passes, joint-looks, joint-gives-no-two}
 use Rattle.model.proofs.Demand3.{joint-takes-pair, joint-accepts-both, swapped-accepts-rest}
 use Rattle.judge.proofs.Claims as judge

@@ -9,7 +9,7 @@ use denote.Ref.{now}
 use Rattle.model.specs.declared.Answer.{Answer}
 use Rattle.model.specs.declared.Answer.the-variants.{Count, Error}
 use Rattle.model.specs.Answers.{Checked, passes, said, answer-of}
-use Rattle.model.specs.Tree.{Document, sizeD, wordsD, without-starts}
+use Rattle.model.specs.Tree.{sizeD, wordsD, without-starts}
 use Rattle.model.specs.Calls.{read, read-said, read-tree, write, write-said, write-out}
 use Rattle.model.proofs.CheckLaws.{passes-inj}
 use Rattle.model.proofs.Answered.{refusal-says, Promised, front-left, read-counted}

@@ -12,8 +12,7 @@ use Rattle.model.specs.declared.Answer.the-variants.{Count, Error}
 use Rattle.model.specs.declared.Refusal.{Refusal}
 use Rattle.model.specs.declared.Refusal.the-variants as refusals
 use Rattle.model.specs.declared.Refusal.the-variants.{LongText, ForbiddenByte, Syntax, UnknownName, OtherName, Depth, ManyNodes, NameList}
-use Rattle.model.specs.declared.Refusal.the-variants.{Tree, TextWords}
-use Rattle.model.specs.declared.Refusal.the-variants.{TagCounts, JointLimit, ShortBuffer, TwoStates, LongForm}
+use Rattle.model.specs.declared.Refusal.the-variants.{Tree, TextWords, TagCounts, JointLimit, ShortBuffer, TwoStates, LongForm}
 use Rattle.model.specs.Answers.{Said, count, refusal, said, said-refusal, Checked, passes, refuses, _>>=_, _>>_, require, room-for}
 use Rattle.model.specs.Answers.{answer-of, buffer-after}
 use Rattle.model.specs.Sheet.{Sheet, sheet-words, sheet-of}

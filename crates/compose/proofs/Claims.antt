@@ -1,7 +1,6 @@
 -- Demand 3 of the code: what `swap` and `join` promise, in one form. `front-left`, `past-left` and `refused-left` in the model's Answered
 -- say what it comes to for the words at the front of the buffer, for those past them, and where it is a refusal. The theorems of the
 -- model's Demand3 take `join … ≡ passes ws` or `swap … ≡ passes ws`, ws being the words that are judged next: `front-left` gives this.
-use mathlib.Core.List.{List}
 use lib.ListN.{length}
 use denote.Ref.{now}
 use Rattle.model.specs.declared.Answer.{Answer}

@@ -19,8 +19,8 @@ use Rattle.join_alike.specs.declared.Spot.{Spot}
 use Rattle.join_alike.specs.declared.RulePair.{RulePair}
 use Rattle.join_alike.specs.Spots.{SpotIn, parts-of}
 use Rattle.join_alike.specs.Alike.{sizes-in, joint-rules-in, row-in, Alike, pair-in, FewPositions}
-use Rattle.join_alike.proofs.AlikeLaws.{JointOf, texts, tags, contents, alike-paired}
-use Rattle.join_alike.proofs.AlikeLaws.{InRow, row-from, row-next, row-among, row-done, InRows, rows-from, rows-next, rows-among, rows-done}
+use Rattle.join_alike.proofs.AlikeLaws.{JointOf, texts, tags, contents, alike-paired, InRow, row-from, row-next, row-among, row-done}
+use Rattle.join_alike.proofs.AlikeLaws.{InRows, rows-from, rows-next, rows-among, rows-done}
 use Rattle.join_contents.specs.Parts.{target-in, pair-words}
 use Rattle.join_contents.proofs.ContentLaws.{one-rule, states-S, states-T, few-states}
 use Rattle.join_rules.specs.Written.{row-words}

@@ -8,12 +8,11 @@ use lib.ListN.{length, getD, take, drop, replicate}
 use denote.Ref.{now}
 use Rattle.model.specs.declared.Judgement.{Judgement}
 use Rattle.model.specs.Lists.{_∈_}
-use Rattle.model.specs.Answers.{accepted, stuck, refusal, passes, said-judgement}
+use Rattle.model.specs.Answers.{accepted, stuck, refusal, passes, said-judgement, looks-in}
 use Rattle.model.specs.Tree.{Element, nodes, size, tree-of}
 use Rattle.model.specs.Sheet.{Sheet, sheet-of}
 use Rattle.model.specs.Relation.{AtMostOne, ReachesTwo, Single, GivesTwo, Takes, NoState, SomeState, StatesOf, Highest}
 use Rattle.model.specs.Calls.{judge-said, judge-states}
-use Rattle.model.specs.Answers.{looks-in}
 use Rattle.model.proofs.Demand2.{Names, verdict-names, verdict-accepts, verdict-two, verdict-two-at, verdict-stuck, verdict-stuck-at}
 use Rattle.model.proofs.Demand2.{states-say, states-zeroed, states-past, looks-bound}
 use Rattle.judge.proofs.judge.Reads as reads

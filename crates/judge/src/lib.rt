@@ -2,9 +2,8 @@
 ghost use mathlib.Core.Path.{_≡_};
 ghost use Prim.Native.Nat.{_*_, _/_, _≤_};
 ghost use lib.ListN.{length, getD};
-ghost use Rattle.model.specs.Answers.{said-judgement};
+ghost use Rattle.model.specs.Answers.{said-judgement, looks-in};
 ghost use Rattle.model.specs.Calls.{judge-said, judge-states};
-ghost use Rattle.model.specs.Answers.{looks-in};
 use judge_run::judge_nodes;
 use layout::INDEX_WORDS;
 use layout::TAGS;

@@ -12,8 +12,7 @@ use lib.Seq.{drop-cons, drop-drop}
 use Rattle.model.specs.Tree.{Element, text, tag, Document, ε, _·_, size, sizeD, words, wordsD, is-text, Keeps, KeepsD, symbol-at, size-at}
 use Rattle.model.specs.Tree.{tree-of}
 use Rattle.model.specs.Sheet.{Rule}
-use Rattle.model.specs.Run.{gist, Item, items, child-words, ran, put}
-use Rattle.model.specs.Run.{judge-text, judge-element, judge-node}
+use Rattle.model.specs.Run.{gist, Item, items, child-words, ran, put, judge-text, judge-element, judge-node}
 use Rattle.model.specs.Answers.{passes}
 use Rattle.model.proofs.TreeLaws.{length-words, tree-passes}
 use Rattle.judge_node.specs.Node.{Sizes, Sized, Shaped, words-between, node-targets, node-looks}

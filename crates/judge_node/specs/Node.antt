@@ -8,8 +8,8 @@ use lib.Dec.{ltb}
 use lib.ListN.{length, drop}
 use Rattle.model.specs.Tree.{symbol-at, size-at}
 use Rattle.model.specs.Sheet.{Rule}
-use Rattle.model.specs.Run.{text-targets, content-targets, element-targets, of-kind, tries, unless-one, element-looks}
-use Rattle.model.specs.Run.{items, child-words, child-states}
+use Rattle.model.specs.Run.{text-targets, content-targets, element-targets, of-kind, tries, unless-one, element-looks, items, child-words}
+use Rattle.model.specs.Run.{child-states}
 
 -- each node has a size, and with what is inside it is in the tree
 pub record Sizes (tree : List ℕ) : Type 0 where

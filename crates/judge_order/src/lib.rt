@@ -1,5 +1,4 @@
 // Order parts: child states read through sets of positions, and how many children are read.
-ghost use mathlib.Core.Path.{_≡_};
 ghost use mathlib.Core.List.{List, map};
 ghost use Prim.Native.Nat.{ℕ};
 ghost use Rattle.model.specs.Sheet.{«arc-of»};

@@ -12,10 +12,9 @@ use lib.Seq.{getD-append-seam}
 use borrow.Author.Tests as tests
 use Rattle.model.specs.Lists.{_∈_, numbers}
 use Rattle.model.specs.Answers.{passes, refuses}
-use Rattle.model.specs.Sheet.{Sheet, W, Got, got, bad, Reader, give, then, _>>=_, word, between, below, one-of, all}
-use Rattle.model.specs.Sheet.{set-below, arc-ok, arc, order, coefficient, sum, at-most-step, remainder-step, one-earlier, two-earlier, step}
-use Rattle.model.specs.Sheet.{steps}
-use Rattle.model.specs.Sheet.{target, text-rule, tag-rule, order-rule, count-rule, order-count-rule, rule, sheet, ended, sheet-of}
+use Rattle.model.specs.Sheet.{Sheet, W, Got, got, bad, Reader, give, then, _>>=_, word, between, below, one-of, all, set-below, arc-ok, arc}
+use Rattle.model.specs.Sheet.{order, coefficient, sum, at-most-step, remainder-step, one-earlier, two-earlier, step, steps, target}
+use Rattle.model.specs.Sheet.{text-rule, tag-rule, order-rule, count-rule, order-count-rule, rule, sheet, ended, sheet-of}
 use Rattle.model.proofs.Tests.{Yes, Told, yea, nay, told, and-left, and-right, between-inv}
 use Rattle.model.proofs.CheckLaws.{refuses≢passes}
 use Rattle.model.proofs.ListLaws.{numbers-<}

@@ -8,8 +8,8 @@ use lib.Dec.{eqb}
 use lib.ListN.{length}
 use Rattle.model.specs.Answers.{said, Checked, passes, refuses, _>>=_, _>>_}
 use Rattle.model.specs.Calls.{names-said, tree-said}
-use Rattle.model.specs.Tree.{tag, Document, ε, _·_, nodes, symbol-at, size-at, span-at, tag-symbol, children-by, children}
-use Rattle.model.specs.Tree.{words, Over, tree-of}
+use Rattle.model.specs.Tree.{tag, Document, ε, _·_, nodes, symbol-at, size-at, span-at, tag-symbol, children-by, children, words, Over}
+use Rattle.model.specs.Tree.{tree-of}
 use Rattle.model.specs.Written.{written, writtenD, texts-checked}
 use Rattle.model.specs.declared.Answer.{Answer}
 use Rattle.model.specs.declared.Answer.the-variants.{Count}

@@ -1,6 +1,6 @@
 -- `put_count` meets its contract: one answer for each of the four cases.
-use Rattle.join_contents.proofs.ContentLaws.{states-S, states-T, count-there, counts-joined, count-S-lifted}
-use Rattle.join_contents.proofs.ContentLaws.{count-T-lifted, no-counts}
+use Rattle.join_contents.proofs.ContentLaws.{states-S, states-T, count-there, counts-joined, count-S-lifted, count-T-lifted}
+use Rattle.join_contents.proofs.ContentLaws.{no-counts}
 use borrow.Author.Needs.{needs}
 use Rattle.join_contents.proofs.put_count.Statement.{statement}
 use Rattle.join_contents.proofs.put_count.Tie as tie

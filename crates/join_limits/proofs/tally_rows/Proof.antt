@@ -1,7 +1,6 @@
 -- `tally_rows` meets its contract. The loop keeps: what is tallied, and what S's rules from i on make, are all joint rules.
 use Prim.Native.Nat.{_-_}
 use native.Mathlib.Omega.{arith}
-use Rattle.model.specs.Compose.{joint-rules}
 use Rattle.join_alike.specs.Alike.{joint-rules-in}
 use Rattle.join_alike.proofs.AlikeLaws.{InRows, rows-from, rows-begun, row-here, rows-next, rows-done}
 use Rattle.join_limits.proofs.LimitLaws.{TallyLeft, tally-begun, tally-more, tally-many, tally-all, row-small}

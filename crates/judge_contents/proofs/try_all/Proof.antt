@@ -5,9 +5,8 @@ use borrow.Author.Needs.{needs}
 use Rattle.model.specs.Index.{rules-in}
 use Rattle.judge_order.specs.Order.{states-of}
 use Rattle.judge_rules.proofs.TargetLaws.{chain-nearer}
-use Rattle.judge_contents.proofs.ContentLaws.{look-fits}
-use Rattle.judge_contents.proofs.ContentLaws.{Trying, trying-begun, ends-some, next-content, next-counted, looks-fit, trying-more}
-use Rattle.judge_contents.proofs.ContentLaws.{trying-ended}
+use Rattle.judge_contents.proofs.ContentLaws.{look-fits, Trying, trying-begun, ends-some, next-content, next-counted, looks-fit}
+use Rattle.judge_contents.proofs.ContentLaws.{trying-more, trying-ended}
 use Rattle.judge_contents.proofs.try_all.Statement.{statement}
 use Rattle.judge_contents.proofs.try_all.Tie as tie
 

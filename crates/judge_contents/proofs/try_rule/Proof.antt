@@ -1,7 +1,7 @@
 -- `judge_contents::try_rule` meets its contract, by the rule's map: its parts are where the map says, and both must fit.
 use borrow.Author.Needs.{needs}
-use Rattle.judge_contents.proofs.ContentLaws.{middle-before, middle-room, middle-within, middle-fits, order-lent, first-lent, second-lent}
-use Rattle.judge_contents.proofs.ContentLaws.{unordered-tries, unfit-tries, ordered-tries}
+use Rattle.judge_contents.proofs.ContentLaws.{middle-before, middle-room, middle-within, middle-fits, order-lent, first-lent}
+use Rattle.judge_contents.proofs.ContentLaws.{second-lent, unordered-tries, unfit-tries, ordered-tries}
 use Rattle.judge_contents.proofs.try_rule.Statement.{statement}
 use Rattle.judge_contents.proofs.try_rule.Tie as tie
 

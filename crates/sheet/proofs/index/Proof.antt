@@ -1,5 +1,4 @@
 -- `sheet::index` meets its contract.
-use native.Mathlib.Omega.{arith}
 use borrow.Author.Needs.{needs}
 use Rattle.sheet.proofs.IndexAnswers.{passes-counted, index-refused, index-left}
 use Rattle.sheet.proofs.index.Statement.{statement}

@@ -1,5 +1,4 @@
 -- `sheet_rules::put_place` meets its contract.
-use mathlib.Core.Path.{refl}
 use borrow.Author.Needs.{needs}
 use Rattle.sheet_rules.proofs.PlaceLaws.{place-put, place-out, place-none}
 use Rattle.sheet_rules.proofs.put_place.Statement.{statement}

@@ -1,8 +1,6 @@
 -- `front` stays within what it is given.
 use mathlib.Core.Path.{sym}
-use Prim.Native.Nat.{_-_}
 use borrow.Author.Needs.{needs}
-use lib.ListN.{length}
 use lib.Seq.{length-take-le}
 use Rattle.cases_store.proofs.buffers.front.Statement.{statement}
 use Rattle.cases_store.proofs.buffers.front.Tie as tie

@@ -1,8 +1,6 @@
 -- `front_bytes` stays within what it is given.
 use mathlib.Core.Path.{sym}
-use Prim.Native.Nat.{_-_}
 use borrow.Author.Needs.{needs}
-use lib.ListN.{length}
 use lib.Seq.{length-take-le}
 use Rattle.cases_store.proofs.buffers.front_bytes.Statement.{statement}
 use Rattle.cases_store.proofs.buffers.front_bytes.Tie as tie
