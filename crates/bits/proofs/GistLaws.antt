@@ -53,13 +53,6 @@ module _ {set : ℕ} {l : List ℕ} (s : Stands set l) where
       (λ n. has-∈ l (sym (s .same q) ∙ own .same q ∙ ∈-has n), λ n. has-∈ m (sym (own .same q) ∙ s .same q ∙ ∈-has n)) in
       one-gist l (gist l) (by-members m) (gist-is l) (same-gist (by-members m) alike (ascending-gist m (members-set 64 set .ascends)))
 
-  pub gist-nothing : length (members 64 set) ≡ 0 → gist l ≡ nothing
-  gist-nothing e = gist-members ∙ go (members 64 set) e
-    where
-      go : (m : List ℕ) → length m ≡ 0 → by-members m ≡ nothing
-      go [] e = refl
-      go (x ∷ m) e = absurd (omega arith)
-
   pub gist-just : length (members 64 set) ≡ 1 → gist l ≡ just (getD (members 64 set) 0 64)
   gist-just e = gist-members ∙ go (members 64 set) e
     where

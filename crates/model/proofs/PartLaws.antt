@@ -98,9 +98,6 @@ module _ {A : Type 0} (f : A → List ℕ) {rest : List A} where
   unfolding flatMap
   each-next e = rw e
 
-  pub each-length : {x : A} {xs : List A} → rest ≡ x ∷ xs → length (flatMap f rest) ≡ length (f x) + length (flatMap f xs)
-  each-length {x} {xs} e = ap length (each-next e) ∙ length-append (f x) (flatMap f xs)
-
   pub each-none : rest ≡ [] → flatMap f rest ≡ []
   unfolding flatMap
   each-none e = rw e

@@ -2,17 +2,16 @@
 use mathlib.Core.Path.{_≡_, refl, sym, ap, _∙_, subst}
 use mathlib.Core.Logic.{_≢_}
 use mathlib.Core.Bool.{Bool, true, false}
-use mathlib.Core.List.{List, [], _∷_, _++_, map, flatMap}
+use mathlib.Core.List.{List, [], _∷_, _++_, map}
 use mathlib.Core.Option.{Option, none, some}
 use Prim.Native.Nat.{ℕ, _+_, _/_, _%_, _≤_, _<_}
 use native.Mathlib.Omega.{arith}
 use lib.ListN.{length, getD, length-append, length-map}
 use Rattle.model.specs.Lists.{has}
-use Rattle.model.specs.Sheet.{Order, Step, Rule, one, two, three, W, mask, set-words, arc-word, order-words, step-words, count-words}
-use Rattle.model.specs.Sheet.{rule-words, OrderInRange, CountInRange, IfAny}
+use Rattle.model.specs.Sheet.{Order, Step, Rule, one, two, three, W, mask, set-words, arc-word, order-words, count-words, rule-words}
+use Rattle.model.specs.Sheet.{OrderInRange, CountInRange, IfAny}
 use Rattle.model.specs.Spans.{WordsAt, OrderAt, CountAt, RuleAt, Content, content, there-is, map-of, ordered, counted, order-part}
 use Rattle.model.specs.Spans.{count-part}
-use Rattle.model.specs.Index.{key}
 use Rattle.model.proofs.Spans.{word-there, word-here, word-next, span-left, span-right}
 use Rattle.model.proofs.PartLaws.{words-end}
 
@@ -83,16 +82,6 @@ module _ {p a : ℕ} {s : List ℕ} {o : Option Order} {φ : Option (List Step)}
   abbrev parts : WordsAt s (a + 1) (h .end) (order-part o ++ (count-part p φ ++ (q ∷ [])))
   parts = word-next whole-words
 
-  pub content-there : a + 1 < length s
-  unfolding order-words count-words
-  content-there = go o φ parts
-    where
-      go : (o : Option Order) (φ : Option (List Step)) → WordsAt s (a + 1) (h .end)
-          (order-part o ++ (count-part p φ ++ (q ∷ []))) → a + 1 < length s
-      go none none w = word-there w
-      go none (some ss) w = word-there w
-      go (some x) φ w = word-there w
-
   pub order-at : {x : Order} → o ≡ some x → OrderAt p s (a + 1) x
   order-at {x} e = record {
     end = a + 1 + length (order-part o);
@@ -150,14 +139,6 @@ module _ {p a : ℕ} {s : List ℕ} {o : Option Order} {φ : Option (List Step)}
         )
 
     -- a rule with a count part ends after its steps, one without where the part would stand
-    pub counted-end : {ss : List Step} → φ ≡ some ss → {t : ℕ} → t ≡ c + 1 + length (flatMap (step-words p) ss) → t ≡ c + length
-        (count-part p φ)
-    unfolding count-words
-    counted-end e i = omega (arith, ap (λ (x : Option (List Step)). length (count-part p x)) e)
-
-    pub uncounted-end : φ ≡ none → c ≡ c + length (count-part p φ)
-    uncounted-end e = omega (arith, ap (λ (x : Option (List Step)). length (count-part p x)) e)
-
     pub target-word : {t : ℕ} → t ≡ c + length (count-part p φ) → (t < length s) × (getD s t 0 ≡ q)
     target-word e = let w = rw (sym e) at (span-right (count-part p φ) (q ∷ []) after-order) in (word-there w, word-here w)
 
@@ -233,22 +214,3 @@ text-key h = (word-here (h .there), word-here (word-next (h .there)))
 pub tag-key : {p a g c q : ℕ} {s : List ℕ} → RuleAt p s a (two g c q) → (getD s a 0 ≡ 38) × (getD s (a + 1) 0 ≡ g)
 unfolding rule-words
 tag-key h = (word-here (h .there), word-here (word-next (h .there)))
-
-module _ {p a : ℕ} {s : List ℕ} where
-  pub key-of-text : (x : Rule) → RuleAt p s a x → getD s a 0 ≡ 33 → (getD s (a + 1) 0 ≡ key x) × (getD s (a + 1) 0 < 67)
-  unfolding key
-  key-of-text x h e =
-      let (k, q, is) = as-text x h e in
-      let at = subst (RuleAt p s a) is h in
-      (text-key at .1 ∙ sym (ap key is), omega (arith, text-key at .1, at .ranges .1))
-
-  pub key-of-tag : (x : Rule) → RuleAt p s a x → getD s a 0 ≡ 38 → (2 + getD s (a + 1) 0 ≡ key x) × (2 + getD s (a + 1) 0 < 67)
-  unfolding key
-  key-of-tag x h e =
-      let (g, c, q, is) = as-tag x h e in
-      let at = subst (RuleAt p s a) is h in
-      (ap (λ (g : ℕ). 2 + g) (tag-key at .1) ∙ sym (ap key is), omega (arith, tag-key at .1, at .ranges .1))
-
-  pub key-of-content : (x : Rule) → RuleAt p s a x → getD s a 0 ≢ 33 → getD s a 0 ≢ 38 → 0 ≡ key x
-  unfolding key
-  key-of-content x h e f = sym (ap key (as-content x h e f .is))
