@@ -1,15 +1,14 @@
 -- How many positions, arcs and steps a rule and the joint rule of two have.
 use mathlib.Core.Path.{_≡_, refl, sym, ap, ap₂, subst, _∙_}
 use mathlib.Core.Bool.{Bool, true, false, and-true}
-use mathlib.Core.List.{List, [], _∷_, flatMap}
+use mathlib.Core.List.{List, [], _∷_}
 use mathlib.Core.Option.{Option, none, some}
 use Prim.Native.Nat.{ℕ, _+_, _*_, _≤_}
-use native.Mathlib.Nat.{suc-mul}
 use native.Mathlib.Omega.{arith}
 use lib.Dec.{eqb, leb}
 use lib.ListN.{length, getD, length-append, length-map}
 use borrow.Author.Tests as tests
-use Rattle.model.specs.Lists.{every, numbers, row, grid}
+use Rattle.model.specs.Lists.{every, numbers}
 use Rattle.model.specs.Sheet.{Order, Step, Rule, one, two, three, order-words, set-words, count-words, RuleInRange, OrderInRange}
 use Rattle.model.specs.Sheet.{CountInRange, IfAny}
 use Rattle.model.specs.Spans.{OrderAt, CountAt, there-is, order-part}
@@ -17,7 +16,7 @@ use Rattle.model.specs.Index.{sheet-in}
 use Rattle.model.specs.Compose as model
 use Rattle.model.specs.Compose.{Side, S, T, of-other, lift-arc, pair-arc, lift-order, pair-order, joint-order, lift-step, joint-count}
 use Rattle.model.specs.Compose.{positions-of, arcs-of, steps-of}
-use Rattle.model.proofs.ListLaws.{length-from}
+use Rattle.model.proofs.ListLaws.{length-from, length-grid}
 use Rattle.model.proofs.Spans.{word-here}
 use Rattle.model.proofs.RuleWords.{order-room, is-there, not-there}
 use Rattle.limits.specs.Limits.{first-of}
@@ -101,17 +100,6 @@ module _ {s : List ℕ} {x : Spot} (h : SpotOf s x) {r : Bool} where
         is-small (ap order-positions (sym i)) (ap order-arcs (sym i))
 
 -- ---- the extent of a joint rule
-
-length-row : {A B C : Type 0} (f : A → B → C) (bs : List B) (a : A) → length (row f bs a) ≡ length bs
-unfolding row flatMap
-length-row f [] a = refl
-length-row f (b ∷ bs) a = omega (arith, length-row f bs a)
-
-length-grid : {A B C : Type 0} (f : A → B → C) (as′ : List A) (bs : List B) → length (grid f as′ bs) ≡ length as′ * length bs
-unfolding grid flatMap
-length-grid f [] bs = omega arith
-length-grid f (a ∷ as′) bs =
-    omega (arith, length-append (row f bs a) (grid f as′ bs), length-row f bs a, length-grid f as′ bs, suc-mul (length as′) (length bs))
 
 -- a lifted order part has each arc for every state of the other sheet
 lifted-arcs : (side : Side) (n : model.Sizes) (o : Order) → length (lift-order side n o .arcs) ≡ length (o .arcs) * of-other side n
