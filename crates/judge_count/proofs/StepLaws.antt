@@ -59,7 +59,8 @@ Said (suc (suc (suc (suc (suc (suc k)))))) part at next s = ⊥
 
 module _ {part : List ℕ} {at : ℕ} where
   -- the sum of a step, and the words after it
-  sum-there : {p next k : ℕ} (cs : List Coefficient) (v : List ℕ) → p ≤ 64 → SumInRange p cs → WordsAt part at next (k ∷ (sum-words p cs ++ v))
+  sum-there : {p next k : ℕ} (cs : List Coefficient) (v : List ℕ) → p ≤ 64 → SumInRange p cs
+      → WordsAt part at next (k ∷ (sum-words p cs ++ v))
       → (sum : SumFrom part (at + 1)) × (sum .coefficients ≡ cs) × WordsAt part (sum .next) next v
   sum-there {p} cs v few h k =
       let u = sum-words p cs in
@@ -141,7 +142,8 @@ module _ {part : List ℕ} {at : ℕ} where
 -- ---- what the code finds
 
 -- after a sum up to word e
-pub sum-room : {part counts : List ℕ} {from e n next : ℕ} {z : ℤ} {s : Step} {test : List ℕ → List Bool → Bool} → Summed part from counts e z
+pub sum-room : {part counts : List ℕ} {from e n next : ℕ} {z : ℤ} {s : Step} {test : List ℕ → List Bool → Bool}
+    → Summed part from counts e z
     → Counts counts → (h : SumFrom part from) → Ends part (h .next) n next s test → e + n < length part
 sum-room sum (w, o) h t = omega (arith, sum h w o .0, t .room)
 

@@ -211,7 +211,8 @@ small-size (negsuc n) y = let l = ltb-true n 32768 y in omega arith
 -- ---- what is left of a sum
 
 -- The coefficients of the states in `set`, those in `rest`, stand from word `at` on, and their terms with `sum` make the whole sum.
-pub record Terms (part : List ℕ) (end : ℕ) (all : List Coefficient) (w : List ℕ) (set at : ℕ) (sum : ℤ) (rest : List Coefficient) : Type 0 where
+pub record Terms (part : List ℕ) (end : ℕ) (all : List Coefficient) (w : List ℕ) (set at : ℕ)
+    (sum : ℤ) (rest : List Coefficient) : Type 0 where
   pub marked : members 64 set ≡ marks rest
   pub words : WordsAt part at end (map (λ c. signed-word (c .times)) rest)
   pub smalls : (c : Coefficient) → c ∈ rest → Yes (small (c .times))

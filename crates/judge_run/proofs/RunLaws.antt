@@ -85,11 +85,13 @@ module _ {R : List Rule} {tree : List ℕ} {n i : ℕ} {states : List ℕ} {look
   unfolding run
   judged =
       let e : i - 1 + 1 ≡ i = omega arith in
-      rw (items-at tree (i - 1) (omega (arith, g .shaped .long, g .within)), e, g .so-far) (rw e at (node-judged R tree states (i - 1) looks))
+      rw (items-at tree (i - 1) (omega (arith, g .shaped .long, g .within)), e, g .so-far)
+      (rw e at (node-judged R tree states (i - 1) looks))
 
   -- what its judging asks
   pub running-judging : {s index words : List ℕ} {rules : Rules} {nothing : Found} → RulesOf s index rules
-      → FindsContent (rules-in s) [] nothing → n ≤ length words → Judging s index (record { node = i - 1; rules = rules; nothing = nothing }) tree states words
+      → FindsContent (rules-in s) [] nothing → n ≤ length words
+      → Judging s index (record { node = i - 1; rules = rules; nothing = nothing }) tree states words
   running-judging k f room =
       let e : i - 1 + 1 ≡ i = omega arith in
       record {

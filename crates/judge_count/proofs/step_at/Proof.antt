@@ -49,7 +49,8 @@ step-at-spec =
     (λ c. omega (arith, or-room (c .before)))
     (λ c κs. or-room (c .before))
     (λ c. omega (arith, or-room (c .before .before)))
-    (λ c earlier t h w o. at-most-found (c .before .sum-at .ensures) o earlier (c .at-most .ensures) (said 1 (c .before .before .match .keys1) h))
+    (λ c earlier t h w o. at-most-found (c .before .sum-at .ensures) o earlier (c .at-most .ensures)
+    (said 1 (c .before .before .match .keys1) h))
     (λ c earlier t h w o.
     remainder-found (c .before .sum-at2 .ensures) o earlier (c .remainder .ensures) (said 2 (c .before .before .match .keys2) h))
     (λ c earlier t h w o. not-found t w (c .truth-at .ensures) (said 3 (c .before .match .keys3) h))

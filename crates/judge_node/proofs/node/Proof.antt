@@ -14,8 +14,11 @@ node-spec =
     (λ c κs. search needs)
     (λ c. search needs)
     (λ c κs.
-    let told = c .before .before .before in
-    (search needs, text-kind (told .before .before .before .before .before .before .before .before .before .pre) (told .symbol-of .ensures) (c .before .kind .given .1)))
+    let told = c .before .before .before in (
+      search needs,
+      text-kind (told .before .before .before .before .before .before .before .before .before .pre)
+          (told .symbol-of .ensures) (c .before .kind .given .1),
+    ))
     (λ c. search needs)
     (λ c κs. search needs)
     (λ c κs.
@@ -26,7 +29,8 @@ node-spec =
     (λ c. search needs)
     (λ c.
     let told = c .before .before .before .before in
-    text-found (told .before .before .before .before .before .before .before .before .before .pre) (told .symbol-of .ensures) (c .before .before .kind .given .1)
+    text-found (told .before .before .before .before .before .before .before .before .before .pre)
+    (told .symbol-of .ensures) (c .before .before .kind .given .1)
     (c .text-targets .ensures))
     (λ c. search needs)
     (λ c.
@@ -36,4 +40,5 @@ node-spec =
     element-found (start .pre) (told .symbol-of .ensures) tag (c .before .before .before .inside .ensures) (c .tagged .ensures))
     (λ c.
     let told = c .before .before in
-    absurd (some-symbol (told .before .before .before .before .before .before .before .before .before .pre) (told .symbol-of .ensures) (c .enum-told .given .1))))
+    absurd (some-symbol (told .before .before .before .before .before .before .before .before .before .pre)
+    (told .symbol-of .ensures) (c .enum-told .given .1))))

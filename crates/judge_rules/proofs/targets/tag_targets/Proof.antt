@@ -36,7 +36,8 @@ tag-targets-spec =
     (λ c κs.
     let loop = c .before .before .before in
     let start = loop .before .before .before .before .before .before in
-    target-room (start .pre .0) (tag-rules (start .args .inner) (start .pre .1)) (loop .loop .inv) (c .before .before .loop-test .taken) refl
+    target-room (start .pre .0) (tag-rules (start .args .inner) (start .pre .1)) (loop .loop .inv)
+    (c .before .before .loop-test .taken) refl
     (c .entry-of .ensures .0))
     (λ c. search (chain-nearer, needs))
     (λ c.

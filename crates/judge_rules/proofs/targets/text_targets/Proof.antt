@@ -51,6 +51,7 @@ text-targets-spec =
     (λ c.
     let loop = c .before .before .before .before .before .before in
     let start = loop .before .before .before .before .before .before in
-    target-added (start .pre .0) (text-rules (start .pre .1)) (loop .loop .inv) (c .before .before .before .before .before .loop-test .taken) refl
+    target-added (start .pre .0) (text-rules (start .pre .1)) (loop .loop .inv)
+    (c .before .before .before .before .before .loop-test .taken) refl
     (c .before .before .before .entry-of .ensures .0) (c .before .before .before .entry-of .ensures .1) (c .with-if .ensures))
     (λ c. search (chain-ended, needs)))
