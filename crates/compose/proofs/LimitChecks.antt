@@ -2,14 +2,14 @@
 use mathlib.Core.Path.{_≡_, refl, sym, ap, ap₂, _∙_, subst}
 use mathlib.Core.Bool.{Bool, true, false, cond}
 use mathlib.Core.List.{List}
-use Prim.Native.Nat.{ℕ, _*_, _≤_, _<_, min}
+use Prim.Native.Nat.{ℕ, _+_, _*_, _≤_, _<_}
 use native.Mathlib.Omega.{arith}
 use lib.Dec.{leb}
 use lib.ListN.{length, getD}
 use borrow.Author.Tests as tests
 use Rattle.model.specs.Lists.{every}
 use Rattle.model.specs.Answers.{Said, count, refusal, Checked, refuses, require, _>>_}
-use Rattle.model.specs.Sheet.{Rule, Sheet, sheet-words}
+use Rattle.model.specs.Sheet.{Rule, Sheet, set-words, sheet-words}
 use Rattle.model.specs.Compose.{positions-of, arcs-of, steps-of, joint, within-limits}
 use Rattle.model.specs.Index.{Indexed}
 use Rattle.model.proofs.Tests.{Yes}
@@ -19,11 +19,11 @@ use Rattle.page.specs.Page.{Writes}
 use Rattle.limits.specs.Limits.{first-of}
 use Rattle.limits.proofs.LimitLaws.{first-3, first-4}
 use Rattle.join_pairs.proofs.NumberLaws.{mul-le}
-use Rattle.join_alike.specs.Alike.{joint-rules-in, Joinable, FewPositions}
+use Rattle.join_alike.specs.Alike.{pairs-in, joint-rules-in, Joinable, FewPositions}
 use Rattle.join_limits.specs.declared.Tally.{Tally}
 use Rattle.join_limits.specs.Limits.{place-in, first-place, LimitOf}
 use Rattle.join_sheets.specs.Sheets.{joint-in, WithinLimits}
-use Rattle.compose.specs.Joins.{lent, fitted, Gives, Fits, Limits}
+use Rattle.compose.specs.Joins.{Within, lent, fitted, Fits, Limits}
 use Rattle.compose.proofs.AnswerLaws.{gives-by, gives-refusal, gives-short, gives-words}
 
 -- ---- the limits of rules
@@ -104,7 +104,7 @@ module _ {u i v j : List ℕ} (h : Indexed u i) (k : Indexed v j) {p q : ℕ} (e
 
 -- ---- the limits of rules, by their tally
 
-module _ {u i v j : List ℕ} (h : Joinable u i v j) {t : Tally} (k : LimitOf (joint-rules-in u v) t) where
+module _ {u i v j : List ℕ} (h : Joinable u i v j) {t : Tally} (k : LimitOf (pairs-in u v) (joint-rules-in u v) t) where
   few-joint : joint-in u v .states ≤ 64
   unfolding joint
   few-joint = h .few .few
@@ -123,38 +123,42 @@ module _ {u i v j : List ℕ} (h : Joinable u i v j) {t : Tally} (k : LimitOf (j
     none-over : 6 ≤ first-place (joint-in u v .rules)
     none-over = omega (arith, first-limit)
 
-    pub few-rules : t .rules ≤ 1024
+    pub within : Within u i v j t
     unfolding joint
-    few-rules = omega (arith, k .rules l, limits-within (joint-in u v) few-joint none-over .1)
-
-    pub within-limits-of-rules : WithinLimits u i v j (t .rules)
-    unfolding joint
-    within-limits-of-rules =
-        record { both = h; few-positions = limits-within (joint-in u v) few-joint none-over .2; number = k .rules l }
+    within =
+        let (_, few, positions) = limits-within (joint-in u v) few-joint none-over in
+        record { both = h; tally = k .within l; few-rules = omega (arith, k .within l .rules); few-positions = positions }
 
     pub rules-within : {out : List ℕ} {x : Said} {y : List ℕ} → Fits u v out x y → Limits u v out x y
     rules-within {out} =
         gives-by (ap (λ (c : Checked (Unit {0})). c >> lent (sheet-words (joint-in u v)) (length out))
         (limits-within (joint-in u v) few-joint none-over .0))
 
--- ---- the limit of words: n is their number, up to one more than the most
+-- ---- the limit of words, and their room
 
-module _ (j : Sheet) (out : List ℕ) {n : ℕ} (e : n ≡ min (length (sheet-words j)) 16385) where
-  pub words-over : 16384 < n → Gives out (fitted j (length out)) (refusal 21 6) out
-  unfolding require _>>_
-  words-over h = gives-refusal out (rw (tests.lt-leb (length (sheet-words j)) 16384 (omega arith)))
+module _ {u i v j : List ℕ} {t : Tally} (k : Within u i v j t) where
+  pub within-limits-of-rules : WithinLimits u i v j (t .rules)
+  within-limits-of-rules = record { both = k .both; few-positions = k .few-positions; number = k .tally .rules }
 
-  module _ (h : n ≤ 16384) where
-    long : length (sheet-words j) ≡ n
-    long = omega arith
+  -- six words come before the rules
+  long : 6 + t .words ≡ length (sheet-words (joint-in u v))
+  unfolding joint sheet-words set-words
+  long = omega (arith, k .tally .words)
 
-    fits : fitted j (length out) ≡ lent (sheet-words j) (length out)
+  module _ (out : List ℕ) where
+    pub words-over : 16384 < 6 + t .words → Fits u v out (refusal 21 6) out
     unfolding require _>>_
-    fits = rw (tests.le-leb (length (sheet-words j)) 16384 (omega (arith, long)))
+    words-over h = gives-refusal out (rw (tests.lt-leb (length (sheet-words (joint-in u v))) 16384 (omega (arith, long))))
 
-    pub words-short : length out < n → Gives out (fitted j (length out)) (refusal 22 n) out
-    words-short l =
-        subst (λ (m : ℕ). Gives out (fitted j (length out)) (refusal 22 m) out) long (gives-short out (sheet-words j) fits (rw long l))
+    module _ (h : 6 + t .words ≤ 16384) where
+      fits : fitted (joint-in u v) (length out) ≡ lent (sheet-words (joint-in u v)) (length out)
+      unfolding require _>>_
+      fits = rw (tests.le-leb (length (sheet-words (joint-in u v))) 16384 (omega (arith, long)))
 
-    pub words-fit : {y : List ℕ} {i : ℕ} → n ≤ length out → Writes out 0 (sheet-words j) y i → Gives out (fitted j (length out)) (count i) y
-    words-fit l w = gives-words out (sheet-words j) fits (omega (arith, long)) (omega (arith, long)) w
+      pub words-short : length out < 6 + t .words → Fits u v out (refusal 22 (6 + t .words)) out
+      words-short l =
+          subst (λ (m : ℕ). Fits u v out (refusal 22 m) out) (sym long) (gives-short out (sheet-words (joint-in u v)) fits (rw (← long) l))
+
+      pub words-fit : {y : List ℕ} {i : ℕ} → 6 + t .words ≤ length out → Writes out 0 (sheet-words (joint-in u v)) y i
+          → Fits u v out (count i) y
+      words-fit l w = gives-words out (sheet-words (joint-in u v)) fits (omega (arith, long)) (omega (arith, long)) w

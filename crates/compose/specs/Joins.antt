@@ -1,13 +1,23 @@
 -- The checks of a joint sheet, and what a call gives by them.
 use mathlib.Core.Path.{_≡_}
 use mathlib.Core.List.{List}
-use Prim.Native.Nat.{ℕ}
+use Prim.Native.Nat.{ℕ, _≤_}
 use lib.Dec.{leb}
 use lib.ListN.{length}
 use Rattle.model.specs.Answers.{Said, Checked, passes, _>>_, require, room-for, answer-of, buffer-after}
 use Rattle.model.specs.Sheet.{Sheet, sheet-words}
 use Rattle.model.specs.Compose.{within-limits}
+use Rattle.join_alike.specs.Alike.{pairs-in, joint-rules-in, Joinable, FewPositions}
+use Rattle.join_limits.specs.declared.Tally.{Tally}
+use Rattle.join_limits.specs.Limits.{TallyOf}
 use Rattle.join_sheets.specs.Sheets.{joint-in}
+
+-- Both sheets pass, with the indexes i and j; their joint rules are tallied by t, and none exceeds a limit.
+pub record Within (u i v j : List ℕ) (t : Tally) : Type 0 where
+  pub both : Joinable u i v j
+  pub tally : TallyOf (pairs-in u v) (joint-rules-in u v) t
+  pub few-rules : t .rules ≤ 1024
+  pub few-positions : FewPositions (joint-rules-in u v)
 
 -- words that need room; those of a sheet, if there are few enough; those of a sheet within all limits
 abbrev pub lent : List ℕ → ℕ → Checked (List ℕ)

@@ -5,10 +5,9 @@ ghost use Rattle.model.specs.Answers.{refusal, said, said-refusal};
 ghost use Rattle.model.specs.Index.{Indexed};
 ghost use Rattle.model.specs.Calls.{swap-said, swap-out, join-said, join-out};
 ghost use Rattle.join_alike.specs.Alike.{Joinable};
-ghost use Rattle.join_sheets.specs.Sheets.{WithinLimits};
-ghost use Rattle.compose.specs.Joins.{Fits, Limits};
+ghost use Rattle.compose.specs.Joins.{Within, Fits, Limits};
+use join_limits::Tally;
 use join_limits::tally_rules;
-use join_sheets::joint_length;
 use join_sheets::put_joint;
 use join_sheets::put_swapped;
 use layout::INDEX_WORDS;
@@ -25,6 +24,9 @@ use parts::at;
 
 // the place of a refusal of T's words is that of T's check plus this
 const SECOND: usize = 20000;
+
+// the words of a sheet before its rules
+const HEAD_WORDS: usize = 6;
 
 // The sheet with its final states complemented, to the front of a buffer: the number of its words, or 9, or 22. A refusal
 // writes nothing.
@@ -43,25 +45,26 @@ pub fn swap(sheet: &[u32], out: &mut [u32]) -> Answer
     }
 }
 
-// The joint sheet of two sheets that exceeds no limit but perhaps that of words: 21 at its place 6, or 22.
+// The joint sheet of two sheets whose rules exceed no limit, by their tally: 21 at its place 6, or 22.
 fn join_within(
     first: &[u32],
     firsts: &[u32],
     second: &[u32],
     seconds: &[u32],
-    rules: u32,
+    tally: Tally,
     out: &mut [u32],
 ) -> Answer
-    requires { ⌜ WithinLimits (now first) (now firsts) (now second) (now seconds) rules ⌝ }
+    requires { ⌜ Within (now first) (now firsts) (now second) (now seconds) tally ⌝ }
     ensures { λ r. ⌜ Fits (now (first .entry)) (now (second .entry)) (now (out .entry)) (said r) (now (out .exit)) ⌝ }
 {
-    let needed = joint_length(first, firsts, second, seconds, rules);
+    let needed = HEAD_WORDS + tally.words;
     if MOST_WORDS < needed {
         return Answer::Error(Refusal::JointLimit(PLACE_WORDS));
     }
     if out.len() < needed {
         return Answer::Error(Refusal::ShortBuffer(needed));
     }
+    let rules = tally.rules as u32;
     Answer::Count(put_joint(first, firsts, second, seconds, rules, out))
 }
 
@@ -80,8 +83,7 @@ fn join_few(
     if tally.place < PLACE_WORDS {
         return Answer::Error(Refusal::JointLimit(tally.place));
     }
-    let rules = tally.rules as u32;
-    join_within(first, firsts, second, seconds, rules, out)
+    join_within(first, firsts, second, seconds, tally, out)
 }
 
 // The joint sheet of two sheets by their indexes: 21 or 22.

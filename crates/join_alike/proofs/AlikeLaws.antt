@@ -96,15 +96,21 @@ pub record InRow (u v index : List ℕ) (x : Spot) (n : Sizes) (m j : ℕ) : Typ
   pub number : length (rules-in v) ≡ m
   pub has-key : j < length (rules-in v) → key (nth (rules-in v) j) ≡ key (rule-of u x)
 
+pub sizes-found : {u v index : List ℕ} {x : Spot} → RowOf u v index x → (n : Sizes) → n .s ≡ getD u 1 0 → n .t ≡ getD v 1 0
+    → sizes-of n ≡ sizes-in u v
+sizes-found h n es et =
+    let s = es ∙ states-word (h .first) in
+    let t = et ∙ states-word (h .second .sheet) in
+    λ i. record { of-S = s i; of-T = t i }
+
 pub row-begun : {u v index : List ℕ} {x : Spot} → RowOf u v index x → (n : Sizes) → n .s ≡ getD u 1 0 → n .t ≡ getD v 1 0 → {w m j : ℕ}
     → w ≡ getD v 5 0 → m ≡ w → j ≡ getD index (key (rule-of u x)) 0 → key (rule-of u x) < 67
     → InRow u v index x n m j × (row-in u v x ≡ row-from u v x j)
 row-begun {u} {v} {x = x} h n es et ew em e l =
-    let s = es ∙ states-word (h .first) in
-    let t = et ∙ states-word (h .second .sheet) in
-    let (all, there) = chain-first (h .second) (pair-rule (sizes-in u v) (rule-of u x)) (keys-apart (sizes-in u v) (rule-of u x)) l e in
-    let same : sizes-of n ≡ sizes-in u v = λ i. record { of-S = s i; of-T = t i } in
-    (record { row = h; sizes = same; number = sym (em ∙ ew ∙ rules-word (h .second .sheet)); has-key = there }, all)
+    let f = pair-rule (sizes-in u v) (rule-of u x) in
+    let (all, there) = chain-first (h .second) f (keys-apart (sizes-in u v) (rule-of u x)) l e in
+    let number = sym (em ∙ ew ∙ rules-word (h .second .sheet)) in
+    (record { row = h; sizes = sizes-found h n es et; number = number; has-key = there }, all)
 
 module _ {u v index : List ℕ} {x : Spot} {n : Sizes} {m j : ℕ} (h : InRow u v index x n m j) where
   pub row-done : m ≤ j → row-from u v x j ≡ []

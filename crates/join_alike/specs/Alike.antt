@@ -5,7 +5,7 @@ use Prim.Native.Nat.{ℕ, _≤_}
 use Rattle.model.specs.Lists.{_∈_}
 use Rattle.model.specs.Sheet.{Rule}
 use Rattle.model.specs.Compose as model
-use Rattle.model.specs.Compose.{sizes, pair-rule, joint-rules, positions-of}
+use Rattle.model.specs.Compose.{sizes, of-pairs, pair-rule, joint-rules, positions-of}
 use Rattle.model.specs.Index.{sheet-in, rules-in, Passes, key, Indexed}
 use Rattle.join_pairs.specs.declared.Sizes.{Sizes}
 use Rattle.join_pairs.specs.Sides.{sizes-of, FewPairs}
@@ -17,6 +17,9 @@ use Rattle.join_alike.specs.Spots.{rule-of, SpotOf}
 
 abbrev pub sizes-in : List ℕ → List ℕ → model.Sizes
 sizes-in u v = sizes (sheet-in u) (sheet-in v)
+
+abbrev pub pairs-in : List ℕ → List ℕ → ℕ
+pairs-in u v = of-pairs (sizes-in u v)
 
 abbrev pub joint-rules-in : List ℕ → List ℕ → List Rule
 joint-rules-in u v = joint-rules (sizes-in u v) (rules-in u) (rules-in v)

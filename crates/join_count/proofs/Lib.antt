@@ -1,3 +1,3 @@
-mod SumWords
-mod StepWords
+pub mod SumWords
+pub mod StepWords
 pub mod CountWords

@@ -209,7 +209,7 @@ module _ (n : Sizes) (cs : List Coefficient) where
       each-half n (if-marked cs) T ∙ each-repeated (flatMap (if-marked cs) (states n T)) (n .of-S) 0
       ∙ ap (repeated (n .of-S)) (each-state (λ ws. ws) refl cs h ∙ each-self (times-words cs))
 
-  times-lifted : (side : Side) → SetBelow (of-side side n) (marks cs)
+  pub times-lifted : (side : Side) → SetBelow (of-side side n) (marks cs)
       → lifted-times side n (times-words cs) ≡ times-words (lift-sum side n cs)
   unfolding lift-sum
   times-lifted side h =

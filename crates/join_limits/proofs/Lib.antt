@@ -1,2 +1,2 @@
-mod ExtentLaws
+mod PairLaws
 mod LimitLaws

@@ -1,27 +1,27 @@
 -- Tallies of joint rules: of a list in two parts, of a loop, and what they say of the limits.
 use mathlib.Core.Path.{_≡_, refl, sym, ap, _∙_}
 use mathlib.Core.Bool.{Bool, true, false, _&&_, and-assoc}
-use mathlib.Core.List.{List, [], _∷_, _++_}
+use mathlib.Core.List.{List, [], _∷_, _++_, flatMap}
 use Prim.Native.Nat.{ℕ, _+_, _≤_, _<_, min}
 use native.Mathlib.Omega.{arith}
 use lib.Dec.{leb}
 use lib.ListN.{length, length-append}
 use borrow.Author.Tests as tests
 use Rattle.model.specs.Lists.{every}
-use Rattle.model.specs.Sheet.{Rule}
+use Rattle.model.specs.Sheet.{Rule, rule-words}
 use Rattle.model.specs.Compose as model
 use Rattle.model.specs.Compose.{positions-of, arcs-of, steps-of, pair-rule}
 use Rattle.model.specs.Index.{rules-in}
-use Rattle.model.proofs.ListLaws.{length-each}
+use Rattle.model.proofs.ListLaws.{length-each, each-append}
 use Rattle.model.proofs.JoinRange.{pair-rule-count}
 use Rattle.model.proofs.PassedLaws.{in-range}
 use Rattle.limits.specs.Limits.{place, first-of}
 use Rattle.limits.proofs.LimitLaws.{place-least}
 use Rattle.join_alike.specs.declared.Spot.{Spot}
 use Rattle.join_alike.specs.Spots.{rule-of}
-use Rattle.join_alike.specs.Alike.{sizes-in, RowOf, row-in}
+use Rattle.join_alike.specs.Alike.{sizes-in, pairs-in, RowOf, row-in}
 use Rattle.join_limits.specs.declared.Tally.{Tally}
-use Rattle.join_limits.specs.Limits.{place-in, first-place, TallyOf, Tallied, LimitOf}
+use Rattle.join_limits.specs.Limits.{place-in, first-place, FewFor, TallyOf, Tallied, LimitOf}
 
 -- ---- the first place of a list in two parts
 
@@ -67,32 +67,50 @@ place-in-none = refl
 
 -- ---- a loop: what is tallied and what is left make the whole
 
-pub record TallyLeft (rs : List Rule) (t : Tally) (rest : List Rule) : Type 0 where
+pub record TallyLeft (p : ℕ) (rs : List Rule) (t : Tally) (rest : List Rule) : Type 0 where
   pub rules : t .rules + length rest ≡ length rs
   pub place : min (t .place) (place-in rest) ≡ place-in rs
   pub most : t .place ≤ 6
+  pub words : t .words + length (flatMap (rule-words p) rest) ≡ length (flatMap (rule-words p) rs)
+  pub few : FewFor t
 
-pub tally-begun : {rs rest : List Rule} → rs ≡ rest → TallyLeft rs (record { rules = 0; place = 6 }) rest
-tally-begun {rs} e = rw (← e) (record { rules = omega arith; place = omega (arith, place-in-most rs); most = omega arith })
+pub tally-begun : {p : ℕ} {rs rest : List Rule} → rs ≡ rest → TallyLeft p rs (record { rules = 0; place = 6; words = 0 }) rest
+tally-begun {rs = rs} e =
+    rw (← e) (record {
+      rules = omega arith;
+      place = omega (arith, place-in-most rs);
+      most = omega arith;
+      words = omega arith;
+      few = record { few = omega arith };
+    })
 
-module _ {rs : List Rule} {t : Tally} {rest : List Rule} (h : TallyLeft rs t rest) where
-  pub tally-more : {u v : List Rule} {s r : Tally} → rest ≡ u ++ v → TallyOf u s → r .rules ≡ t .rules + s .rules → r .place
+module _ {p : ℕ} {rs : List Rule} {t : Tally} {rest : List Rule} (h : TallyLeft p rs t rest) where
+  pub tally-more : {u v : List Rule} {s r : Tally} → rest ≡ u ++ v → TallyOf p u s → r .rules ≡ t .rules + s .rules → r .place
       ≡ min (t .place) (s .place)
-      → TallyLeft rs r v
-  tally-more {u} {v} {s} {r} e k er ep = record {
+      → r .words ≡ t .words + s .words → TallyLeft p rs r v
+  tally-more {u} {v} {s} {r} e k er ep ew = record {
     rules = omega (arith, h .rules, ap length e, length-append u v, k .rules);
     place = omega (arith, h .place, ap place-in e, place-append u v, k .place);
     most = omega (arith, h .most);
+    words =
+        let both = ap length (ap (flatMap (rule-words p)) e ∙ each-append (rule-words p) u v) in
+        omega (arith, h .words, both, length-append (flatMap (rule-words p) u) (flatMap (rule-words p) v), k .words);
+    few = record { few = omega (arith, h .few .few, k .few .few) };
   }
 
-  pub tally-done : rest ≡ [] → TallyOf rs t
-  tally-done e =
-      record { rules = omega (arith, h .rules, ap length e); place = omega (arith, h .place, ap place-in e, place-in-none, h .most) }
+  pub tally-done : rest ≡ [] → TallyOf p rs t
+  unfolding flatMap
+  tally-done e = record {
+    rules = omega (arith, h .rules, ap length e);
+    place = omega (arith, h .place, ap place-in e, place-in-none, h .most);
+    words = omega (arith, h .words, ap (λ (l : List Rule). length (flatMap (rule-words p) l)) e);
+    few = h .few;
+  }
 
-  pub tally-many : 1024 < t .rules → Tallied rs t
+  pub tally-many : 1024 < t .rules → Tallied p rs t
   tally-many l = record { many = λ _. omega (arith, h .rules); few = λ k. absurd (omega arith) }
 
-  pub tally-all : rest ≡ [] → Tallied rs t
+  pub tally-all : rest ≡ [] → Tallied p rs t
   tally-all e = let k = tally-done e in record { many = λ l. omega (arith, k .rules); few = λ l. k }
 
 -- ---- a row has at most one joint rule for each rule of T
@@ -103,23 +121,23 @@ module _ {u v index : List ℕ} {x : Spot} (h : RowOf u v index x) where
       let f = pair-rule (sizes-in u v) (rule-of u x) in
       omega (arith, length-each f 1 (pair-rule-count (sizes-in u v) (rule-of u x)) (rules-in v), in-range (h .second .sheet) .few-rules)
 
-  pub row-small : {t : Tally} → TallyOf (row-in u v x) t → t .rules ≤ 1024
+  pub row-small : {t : Tally} → TallyOf (pairs-in u v) (row-in u v x) t → t .rules ≤ 1024
   row-small k = omega (arith, k .rules, row-few)
 
-  pub pair-room : (n : model.Sizes) (y : Rule) {s t : Tally} {rest : List Rule} → TallyLeft (row-in u v x) t rest
-      → TallyOf (pair-rule n (rule-of u x) y) s
+  pub pair-room : {p : ℕ} (n : model.Sizes) (y : Rule) {s t : Tally} {rest : List Rule} → TallyLeft p (row-in u v x) t rest
+      → TallyOf p (pair-rule n (rule-of u x) y) s
       → t .rules + s .rules ≤ 2048
   pair-room n y l k = omega (arith, l .rules, k .rules, pair-rule-count n (rule-of u x) y, row-few)
 
 -- ---- the first of all limits
 
-module _ {rs : List Rule} {t : Tally} (h : Tallied rs t) where
-  pub limit-many : 1024 < t .rules → LimitOf rs (record { rules = t .rules; place = 2 })
+module _ {p : ℕ} {rs : List Rule} {t : Tally} (h : Tallied p rs t) where
+  pub limit-many : 1024 < t .rules → LimitOf p rs (record { rules = t .rules; place = 2; words = t .words })
   unfolding first-place
-  limit-many l = record { place = sym (rw (tests.lt-leb (length rs) 1024 (h .many l))); rules = λ l. absurd (omega arith) }
+  limit-many l = record { place = sym (rw (tests.lt-leb (length rs) 1024 (h .many l))); within = λ l. absurd (omega arith) }
 
-  pub limit-few : t .rules ≤ 1024 → LimitOf rs t
+  pub limit-few : t .rules ≤ 1024 → LimitOf p rs t
   unfolding first-place
   limit-few l =
       let k = h .few l in
-      record { place = k .place ∙ sym (rw (tests.le-leb (length rs) 1024 (omega (arith, k .rules)))); rules = λ _. k .rules }
+      record { place = k .place ∙ sym (rw (tests.le-leb (length rs) 1024 (omega (arith, k .rules)))); within = λ _. k }

@@ -15,7 +15,6 @@ use join_contents::joint_target;
 use join_contents::put_contents;
 use join_pairs::Sizes;
 use join_pairs::pair;
-use layout::MOST_WORDS;
 use layout::RULES;
 use layout::TAG_RULE;
 use layout::TEXT_RULE;
@@ -131,10 +130,6 @@ pub fn put_rules(
     let mut next = at;
     let mut i = 0;
     while i < m {
-        // no more is written or counted
-        if MOST_WORDS < next {
-            return next;
-        }
         next = put_row(first, second, seconds, spot_of(firsts, i), out, next);
         i += 1;
     }

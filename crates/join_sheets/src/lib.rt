@@ -1,7 +1,5 @@
 // The words of swapped and joint sheets.
 ghost use mathlib.Core.Path.{_≡_};
-ghost use Prim.Native.Nat.{min};
-ghost use lib.ListN.{length};
 ghost use Rattle.model.specs.Sheet.{sheet-words};
 ghost use Rattle.model.specs.Compose.{swapped};
 ghost use Rattle.model.specs.Index.{sheet-in, Passes};
@@ -68,19 +66,4 @@ pub fn put_joint(
 {
     let headed = put_head(first, second, rules, out);
     put_rules(first, firsts, second, seconds, out, headed)
-}
-
-// The number of words of the joint sheet of two sheets, up to one more than the most of a sheet.
-pub fn joint_length(
-    first: &[u32],
-    firsts: &[u32],
-    second: &[u32],
-    seconds: &[u32],
-    rules: u32,
-) -> usize
-    requires { ⌜ WithinLimits (now first) (now firsts) (now second) (now seconds) rules ⌝ }
-    ensures { λ r. ⌜ r ≡ min (length (sheet-words (joint-in (now (first .entry)) (now (second .entry))))) 16385 ⌝ }
-{
-    let mut none = [0u32; 0];
-    put_joint(first, firsts, second, seconds, rules, &mut none)
 }

@@ -61,15 +61,6 @@ module _ {l₀ : List ℕ} {i₀ : ℕ} {ws l : List ℕ} {i : ℕ} {rest : List
   unfolding adds
   done e = record { is = ap (adds (page l i)) (sym e) ∙ inv .is }
 
-  -- past the most words there is nothing more to write
-  pub full : 16384 < i → Writes l₀ i₀ ws l i
-  unfolding adds add
-  full h = record { is = sym (stays rest) ∙ inv .is }
-    where
-      stays : (ws : List ℕ) → adds (page l i) ws ≡ page l i
-      stays [] = refl
-      stays (w ∷ ws) = rw (tests.lt-leb i 16384 h) (stays ws)
-
 -- ---- the buffer keeps its length
 
 adds-length : (g : Page) (ws : List ℕ) → length (adds g ws .words) ≡ length (g .words)

@@ -1,7 +1,6 @@
 -- `join_few` meets its contract: where no limit of the rules is exceeded, that of words is left.
-use native.Mathlib.Omega.{arith}
 use Rattle.model.specs.Answers.{said, said-refusal}
-use Rattle.compose.proofs.LimitChecks.{rules-over, few-rules, within-limits-of-rules, rules-within}
+use Rattle.compose.proofs.LimitChecks.{rules-over, within, rules-within}
 use borrow.Author.Needs.{needs}
 use Rattle.compose.proofs.join_few.Statement.{statement}
 use Rattle.compose.proofs.join_few.Tie as tie
@@ -13,10 +12,6 @@ join-few-spec =
     (tie.spec
     (λ c κs. search needs)
     (λ c. search (rules-over, needs))
-    (λ c.
-    let tally = c .before .before .before in
-    let start = tally .before .before .before .before .before .before in
-    omega (arith, few-rules (start .pre) (tally .tally-rules .ensures) (c .before .if1 .left)))
-    (λ c κs. search (within-limits-of-rules, needs))
+    (λ c κs. search (within, needs))
     (λ c. search needs)
     (λ c. search (rules-within, needs)))

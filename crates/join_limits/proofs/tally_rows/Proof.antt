@@ -1,7 +1,7 @@
 -- `tally_rows` meets its contract. The loop keeps: what is tallied, and what S's rules from i on make, are all joint rules.
 use Prim.Native.Nat.{_-_}
 use native.Mathlib.Omega.{arith}
-use Rattle.join_alike.specs.Alike.{joint-rules-in}
+use Rattle.join_alike.specs.Alike.{pairs-in, joint-rules-in}
 use Rattle.join_alike.proofs.AlikeLaws.{InRows, rows-from, rows-begun, row-here, rows-next, rows-done}
 use Rattle.join_limits.proofs.LimitLaws.{TallyLeft, tally-begun, tally-more, tally-many, tally-all, row-small}
 use borrow.Author.Needs.{needs}
@@ -10,7 +10,7 @@ use Rattle.join_limits.proofs.tally_rows.Tie as tie
 
 abbrev Inv-loop : tie.InvT-loop
 Inv-loop first firsts second seconds m tally₀ i₀ tally i =
-    InRows first firsts second seconds m × TallyLeft (joint-rules-in first second) tally (rows-from first second i)
+    InRows first firsts second seconds m × TallyLeft (pairs-in first second) (joint-rules-in first second) tally (rows-from first second i)
 
 abbrev μ-loop : tie.MeasureT-loop
 μ-loop first firsts second seconds m tally₀ i₀ tally i = m - i

@@ -3,7 +3,7 @@ use mathlib.Core.List.{flatMap}
 use Prim.Native.Nat.{_-_}
 use Rattle.model.specs.Sheet.{rule-words}
 use Rattle.model.specs.Compose.{of-pairs}
-use Rattle.page.proofs.PageLaws.{Left, begun, more, done, full, kept}
+use Rattle.page.proofs.PageLaws.{Left, begun, more, done, kept}
 use Rattle.join_alike.specs.Alike.{sizes-in}
 use Rattle.join_alike.proofs.AlikeLaws.{InRows, rows-from, rows-begun, row-here}
 use Rattle.join_rules.specs.Written.{joint-words}
@@ -30,8 +30,6 @@ put-rules-spec =
     (λ c κs. search needs)
     (λ c κs. search needs)
     (λ c. search (rows-begun, begun, needs))
-    (λ c. search (kept, needs))
-    (λ c. search (full, needs))
     (λ c κs. search needs)
     (λ c κs. (search (row-here, needs), search (row-few, needs)))
     (λ c. search needs)

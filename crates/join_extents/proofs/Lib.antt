@@ -1,0 +1,2 @@
+mod LiftLaws
+pub mod ExtentLaws
