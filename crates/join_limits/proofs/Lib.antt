@@ -1,2 +1,3 @@
 mod PairLaws
 mod LimitLaws
+mod PlainLaws

@@ -124,6 +124,9 @@ module _ {u v index : List ℕ} {x : Spot} (h : RowOf u v index x) where
   pub row-small : {t : Tally} → TallyOf (pairs-in u v) (row-in u v x) t → t .rules ≤ 1024
   row-small k = omega (arith, k .rules, row-few)
 
+  pub row-counted : {p : ℕ} {t : Tally} {rest : List Rule} → TallyLeft p (row-in u v x) t rest → t .rules ≤ 1024
+  row-counted l = omega (arith, l .rules, row-few)
+
   pub pair-room : {p : ℕ} (n : model.Sizes) (y : Rule) {s t : Tally} {rest : List Rule} → TallyLeft p (row-in u v x) t rest
       → TallyOf p (pair-rule n (rule-of u x) y) s
       → t .rules + s .rules ≤ 2048

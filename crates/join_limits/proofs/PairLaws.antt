@@ -3,7 +3,7 @@ use mathlib.Core.Path.{_≡_, refl, sym, ap, ap₂, subst, _∙_}
 use mathlib.Core.Bool.{and-true}
 use mathlib.Core.List.{List, [], _∷_, flatMap}
 use mathlib.Core.Option.{none, some}
-use Prim.Native.Nat.{ℕ, _^_, _≤_}
+use Prim.Native.Nat.{ℕ, _*_, _^_, _≤_, _<_}
 use native.Mathlib.Omega.{arith}
 use lib.Dec.{leb}
 use lib.ListN.{length, getD, length-append}
@@ -11,7 +11,7 @@ use Rattle.model.specs.Lists.{every}
 use Rattle.model.specs.Sheet.{Rule, one, two, three, rule-words}
 use Rattle.model.specs.Index.{sheet-in}
 use Rattle.model.specs.Compose as model
-use Rattle.model.specs.Compose.{S, T, of-pairs, positions-of, arcs-of, steps-of}
+use Rattle.model.specs.Compose.{S, T, of-pairs, joint-count, positions-of, arcs-of, steps-of}
 use Rattle.limits.specs.Limits.{first-of}
 use Rattle.join_pairs.specs.declared.Sizes.{Sizes}
 use Rattle.join_pairs.specs.declared.Side.the-variants as code
@@ -20,7 +20,7 @@ use Rattle.join_alike.specs.declared.Spot.{Spot}
 use Rattle.join_alike.specs.declared.RulePair.{RulePair}
 use Rattle.join_alike.specs.Spots.{rule-of}
 use Rattle.join_alike.specs.Alike.{pairs-in, RowOf, Alike, pair-in}
-use Rattle.join_alike.proofs.AlikeLaws.{alike-paired, paired-rule, sizes-found}
+use Rattle.join_alike.proofs.AlikeLaws.{JointOf, texts, tags, contents, alike-paired, paired-rule, sizes-found}
 use Rattle.join_extents.specs.declared.Extent.{Extent}
 use Rattle.join_extents.specs.Extents.{RuleOf, extent-of, extent-in, joint-extent, fixed-words, words-of}
 use Rattle.join_extents.proofs.ExtentLaws.{joint-sized}
@@ -47,6 +47,14 @@ one-long : (p : ℕ) (z : Rule) → length (flatMap (rule-words p) (z ∷ [])) �
 unfolding flatMap
 one-long p z = omega (arith, length-append (rule-words p z) [])
 
+-- rules of texts and of tags have no parts
+plain-tally : {n : model.Sizes} {x y z : Rule} → JointOf n x y z → 2 < fixed-words x
+    → tally-by (fixed-words x) (joint-extent n (extent-of S n x) (extent-of T n y)) ≡ record { rules = 1; place = 6; words = fixed-words x }
+unfolding joint-count
+plain-tally {n} (texts k s t) l = let e : 0 * n .of-S ≡ 0 = omega arith in rw e
+plain-tally {n} (tags g c d s t) l = let e : 0 * n .of-S ≡ 0 = omega arith in rw e
+plain-tally (contents o u φ ψ s t) l = absurd (omega arith)
+
 -- what the code makes of two extents
 pub tally-made : (fixed : ℕ) {l w : ℕ} {z e : Extent} → z ≡ e
     → l ≡ first-of (leb (z .order .positions) 64) (leb (z .order .arcs) 1024) (leb (z .count .steps) 32)
@@ -57,6 +65,11 @@ tally-made fixed i el (ew, few) =
     let words = ew ∙ ap (words-of fixed) i in
     ((λ i. record { rules = 1; place = place i; words = words i }), record { few = omega arith })
 
+pub fixed-few : (x : Rule) → fixed-words x ≤ 4
+fixed-few (one k q) = omega arith
+fixed-few (two g c q) = omega arith
+fixed-few (three o φ q) = omega arith
+
 module _ {u v : List ℕ} {n : Sizes} {r : RulePair} (h : Alike u v n r) where
   pub pair-tallied : {x y : Extent} {fixed : ℕ} {t : Tally} → x ≡ extent-of S (sizes-of n) (rule-of u (r .s))
       → y ≡ extent-of T (sizes-of n) (rule-of v (r .t)) → fixed ≡ fixed-words (rule-of u (r .s))
@@ -64,8 +77,8 @@ module _ {u v : List ℕ} {n : Sizes} {r : RulePair} (h : Alike u v n r) where
   pair-tallied {t = t} ex ey ef et few =
       let (z, w) = alike-paired h in
       let p = of-pairs (sizes-of n) in
-      let ranges = (h .first .begins .ranges, h .second .begins .ranges) in
-      let (joint, long) = joint-sized (sizes-of n) (sheet-in u .states) (sheet-in v .states) w (ranges .0) (ranges .1) in
+      let (joint, long)
+      = joint-sized (sizes-of n) (sheet-in u .states) (sheet-in v .states) w (h .first .begins .ranges) (h .second .begins .ranges) in
       let is = ap₂ (joint-extent (sizes-of n)) ex ey ∙ sym joint in
       subst (λ (m : model.Sizes). TallyOf (of-pairs m) (pair-in u v n r) t) (h .sizes) (rw (paired-rule w) (record {
         rules = ap (λ (s : Tally). s .rules) et;
@@ -73,6 +86,11 @@ module _ {u v : List ℕ} {n : Sizes} {r : RulePair} (h : Alike u v n r) where
         words = ap (λ (s : Tally). s .words) et ∙ ap₂ words-of ef is ∙ sym long ∙ sym (one-long p z);
         few = few;
       }))
+
+  pub plain-tallied : 2 < fixed-words (rule-of u (r .s))
+      → TallyOf (pairs-in u v) (pair-in u v n r) (record { rules = 1; place = 6; words = fixed-words (rule-of u (r .s)) })
+  plain-tallied l =
+      pair-tallied refl refl refl (sym (plain-tally (alike-paired h .1) l)) (record { few = omega (arith, fixed-few (rule-of u (r .s))) })
 
   pub rule-of-T : RuleOf code.T n v (r .t)
   rule-of-T = record { spot = h .second; states = ap (λ (m : model.Sizes). m .of-T) (sym (h .sizes)); few = h .few }

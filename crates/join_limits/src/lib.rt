@@ -1,9 +1,10 @@
 // The limits of a joint sheet's rules and the number of their words, by a tally of them.
 ghost use mathlib.Core.Path.{_≡_};
-ghost use Prim.Native.Nat.{_+_, _≤_, _^_, min};
+ghost use Prim.Native.Nat.{_+_, _≤_, _<_, min};
 ghost use Rattle.join_pairs.specs.Sides.{sizes-of, FewPairs};
 ghost use Rattle.join_alike.specs.Alike.{pairs-in, joint-rules-in, Joinable, RowOf, row-in};
-ghost use Rattle.join_extents.specs.Extents.{Small, joint-extent};
+ghost use Rattle.join_alike.specs.Spots.{rule-of};
+ghost use Rattle.join_extents.specs.Extents.{Small, joint-extent, fixed-words};
 ghost use Rattle.join_limits.specs.Limits.{tally-by, FewFor, TallyOf, Tallied, LimitOf};
 use join_alike::Spot;
 use join_alike::first_alike;
@@ -25,6 +26,9 @@ use limits::first_over;
 use parts::at;
 
 const MOST_RULES: usize = layout::MOST_RULES as usize;
+
+// the words of a rule of content that are in none of its parts
+const CONTENT_WORDS: usize = 2;
 
 // How many rules there are, the place of the first limit that they exceed, or that of words, and how many words they have.
 pub struct Tally {
@@ -70,8 +74,28 @@ fn with_more(t: Tally, u: Tally) -> Tally
     }
 }
 
-// The tally of the joint rules of a rule of S and the rules of T with its key, along their chain.
-fn tally_row(first: &[u32], second: &[u32], index: &[u32], x: Spot) -> Tally
+// The tally of the joint rules of a rule of S of a text or a tag, which have no parts: as many as there are rules of T with its key.
+fn tally_plain(first: &[u32], second: &[u32], index: &[u32], x: Spot) -> Tally
+    requires { ⌜ RowOf (now first) (now second) (now index) x × (2 < fixed-words (rule-of (now first) x)) ⌝ }
+    ensures { λ r. ⌜ TallyOf (pairs-in (now (first .entry)) (now (second .entry)))
+        (row-in (now (first .entry)) (now (second .entry)) x) r ⌝ }
+{
+    let n = wide(at(second, RULES));
+    let mut rules = 0;
+    let mut j = first_alike(first, x, index);
+    while j < n {
+        rules += 1;
+        j = next_alike(index, j);
+    }
+    Tally {
+        rules,
+        place: PLACE_WORDS,
+        words: rules * fixed_words(first, x),
+    }
+}
+
+// The tally of the joint rules of a rule of S and the rules of T with its key, along their chain, by the extents of each.
+fn tally_contents(first: &[u32], second: &[u32], index: &[u32], x: Spot) -> Tally
     requires { ⌜ RowOf (now first) (now second) (now index) x ⌝ }
     ensures { λ r. ⌜ TallyOf (pairs-in (now (first .entry)) (now (second .entry)))
         (row-in (now (first .entry)) (now (second .entry)) x) r ⌝ }
@@ -91,6 +115,18 @@ fn tally_row(first: &[u32], second: &[u32], index: &[u32], x: Spot) -> Tally
         j = next_alike(index, j);
     }
     tally
+}
+
+// The tally of the joint rules of a rule of S and the rules of T with its key.
+fn tally_row(first: &[u32], second: &[u32], index: &[u32], x: Spot) -> Tally
+    requires { ⌜ RowOf (now first) (now second) (now index) x ⌝ }
+    ensures { λ r. ⌜ TallyOf (pairs-in (now (first .entry)) (now (second .entry)))
+        (row-in (now (first .entry)) (now (second .entry)) x) r ⌝ }
+{
+    if CONTENT_WORDS < fixed_words(first, x) {
+        return tally_plain(first, second, index, x);
+    }
+    tally_contents(first, second, index, x)
 }
 
 // The tally of the joint rules of all rules of S, or of so many of them that there are too many joint rules.
