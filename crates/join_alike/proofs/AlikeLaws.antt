@@ -20,6 +20,7 @@ use Rattle.join_pairs.specs.declared.Sizes.{Sizes}
 use Rattle.join_pairs.specs.Sides.{sizes-of}
 use Rattle.join_alike.specs.declared.Spot.{Spot}
 use Rattle.join_alike.specs.declared.RulePair.{RulePair}
+use Rattle.join_alike.specs.declared.Row.{Row}
 use Rattle.join_alike.specs.Spots.{SpotIn, rule-of}
 use Rattle.join_alike.specs.Alike.{sizes-in, joint-rules-in, Joinable, RowOf, row-in, Alike, pair-in}
 use Rattle.join_alike.proofs.SpotLaws.{spot-found}
@@ -89,59 +90,53 @@ rules-none xs {j = j} e l f = ap (flatMap f) (drop-of-length-le xs {i = j} (omeg
 abbrev pub row-from : List ℕ → List ℕ → Spot → ℕ → List Rule
 row-from u v x j = flatMap (pair-rule (sizes-in u v) (rule-of u x)) (drop j (rules-in v))
 
--- A walk along the chain is at T's rule j, if there is one: it has the key of x. T has m rules.
-pub record InRow (u v index : List ℕ) (x : Spot) (n : Sizes) (m j : ℕ) : Type 0 where
-  pub row : RowOf u v index x
-  pub sizes : sizes-of n ≡ sizes-in u v
-  pub number : length (rules-in v) ≡ m
-  pub has-key : j < length (rules-in v) → key (nth (rules-in v) j) ≡ key (rule-of u x)
+-- A walk along the chain is at T's rule j, if there is one: it has the key of S's rule.
+pub record InRow (u v index : List ℕ) (r : Row) (j : ℕ) : Type 0 where
+  pub row : RowOf u v index r
+  pub has-key : j < length (rules-in v) → key (nth (rules-in v) j) ≡ key (rule-of u (r .rule))
 
-pub sizes-found : {u v index : List ℕ} {x : Spot} → RowOf u v index x → (n : Sizes) → n .s ≡ getD u 1 0 → n .t ≡ getD v 1 0
-    → sizes-of n ≡ sizes-in u v
-sizes-found h n es et =
-    let s = es ∙ states-word (h .first) in
-    let t = et ∙ states-word (h .second .sheet) in
-    λ i. record { of-S = s i; of-T = t i }
+pub row-begun : {u v index : List ℕ} {r : Row} → RowOf u v index r → {j : ℕ} → j ≡ getD index (key (rule-of u (r .rule))) 0
+    → key (rule-of u (r .rule)) < 67 → InRow u v index r j × (row-in u v (r .rule) ≡ row-from u v (r .rule) j)
+row-begun {u} {v} {r = r} h e l =
+    let x = rule-of u (r .rule) in
+    let (all, there) = chain-first (h .second) (pair-rule (sizes-in u v) x) (keys-apart (sizes-in u v) x) l e in
+    (record { row = h; has-key = there }, all)
 
-pub row-begun : {u v index : List ℕ} {x : Spot} → RowOf u v index x → (n : Sizes) → n .s ≡ getD u 1 0 → n .t ≡ getD v 1 0 → {w m j : ℕ}
-    → w ≡ getD v 5 0 → m ≡ w → j ≡ getD index (key (rule-of u x)) 0 → key (rule-of u x) < 67
-    → InRow u v index x n m j × (row-in u v x ≡ row-from u v x j)
-row-begun {u} {v} {x = x} h n es et ew em e l =
-    let f = pair-rule (sizes-in u v) (rule-of u x) in
-    let (all, there) = chain-first (h .second) f (keys-apart (sizes-in u v) (rule-of u x)) l e in
-    let number = sym (em ∙ ew ∙ rules-word (h .second .sheet)) in
-    (record { row = h; sizes = sizes-found h n es et; number = number; has-key = there }, all)
+module _ {u v index : List ℕ} {r : Row} {j : ℕ} (h : InRow u v index r j) where
+  abbrev own : Rule
+  own = rule-of u (r .rule)
 
-module _ {u v index : List ℕ} {x : Spot} {n : Sizes} {m j : ℕ} (h : InRow u v index x n m j) where
-  pub row-done : m ≤ j → row-from u v x j ≡ []
-  row-done l = rules-none (rules-in v) (h .number) l (pair-rule (sizes-in u v) (rule-of u x))
+  pub row-done : r .others ≤ j → row-from u v (r .rule) j ≡ []
+  row-done l = rules-none (rules-in v) (h .row .others) l (pair-rule (sizes-in u v) own)
 
-  module _ (l : j < m) where
+  module _ (l : j < r .others) where
     inside : j < length (rules-in v)
-    inside = omega (arith, h .number)
+    inside = omega (arith, h .row .others)
 
-    -- x and the rule that the index tells
-    pub row-alike : {y : Spot} → SpotIn index j y → Alike u v n (record { s = x; t = y })
+    -- S's rule and the one that the index tells
+    pub row-alike : {y : Spot} → SpotIn index j y → Alike u v (r .sizes) (record { s = r .rule; t = y })
     row-alike e = record {
       first = h .row .rule;
       second = spot-found (h .row .second) inside e;
       one-key = rw (e .rule) (h .has-key inside);
-      sizes = h .sizes;
-      few = rw (h .sizes) (h .row .few);
+      sizes = h .row .sizes;
+      few = rw (h .row .sizes) (h .row .few);
     }
 
-    pub row-among : {y : Spot} → SpotIn index j y → {z : Rule} → z ∈ pair-in u v n (record { s = x; t = y }) → z ∈ row-in u v x
+    pub row-among : {y : Spot} → SpotIn index j y → {z : Rule} → z ∈ pair-in u v (r .sizes) (record { s = r .rule; t = y })
+        → z ∈ row-in u v (r .rule)
     row-among {y} e k =
         let here : y .rule < length (rules-in v) = omega (arith, inside, e .rule) in
-        ∈-each (pair-rule (sizes-in u v) (rule-of u x)) (nth-∈ (rules-in v) (y .rule) here) (rw (h .sizes) at k)
+        ∈-each (pair-rule (sizes-in u v) own) (nth-∈ (rules-in v) (y .rule) here) (rw (h .row .sizes) at k)
 
     pub row-next : {y : Spot} → SpotIn index j y → {i : ℕ} → i ≡ getD index (67 + j) 0 / 2 ^ 16
-        → InRow u v index x n m i × (row-from u v x j ≡ pair-in u v n (record { s = x; t = y }) ++ row-from u v x i) × (j < i)
+        → InRow u v index r i
+        × (row-from u v (r .rule) j ≡ pair-in u v (r .sizes) (record { s = r .rule; t = y }) ++ row-from u v (r .rule) i) × (j < i)
     row-next here e =
-        let f = pair-rule (sizes-in u v) (rule-of u x) in
-        let (next, there) = chain-next (h .row .second) f (keys-apart (sizes-in u v) (rule-of u x)) inside (h .has-key inside) e in (
-          record { row = h .row; sizes = h .sizes; number = h .number; has-key = there },
-          rw (h .sizes, here .rule) next,
+        let f = pair-rule (sizes-in u v) own in
+        let (next, there) = chain-next (h .row .second) f (keys-apart (sizes-in u v) own) inside (h .has-key inside) e in (
+          record { row = h .row; has-key = there },
+          rw (h .row .sizes, here .rule) next,
           chain-few (h .row .second) inside e .0,
         )
 
@@ -151,27 +146,40 @@ module _ {u v index : List ℕ} {x : Spot} {n : Sizes} {m j : ℕ} (h : InRow u 
 abbrev pub rows-from : List ℕ → List ℕ → ℕ → List Rule
 rows-from u v k = joint-rules (sizes-in u v) (drop k (rules-in u)) (rules-in v)
 
--- S has m rules
-pub record InRows (u i v j : List ℕ) (m : ℕ) : Type 0 where
+-- S has m rules and T has o, and n are the numbers of states
+pub record InRows (u i v j : List ℕ) (n : Sizes) (m o : ℕ) : Type 0 where
   pub both : Joinable u i v j
+  pub sizes : sizes-of n ≡ sizes-in u v
   pub number : length (rules-in u) ≡ m
+  pub others : length (rules-in v) ≡ o
 
-pub rows-begun : {u i v j : List ℕ} → Joinable u i v j → {w m : ℕ} → w ≡ getD u 5 0 → m ≡ w → InRows u i v j m
-rows-begun h ew em = record { both = h; number = sym (em ∙ ew ∙ rules-word (h .first .sheet)) }
+pub rows-begun : {u i v j : List ℕ} → Joinable u i v j → (n : Sizes) → n .s ≡ getD u 1 0 → n .t ≡ getD v 1 0 → {k m l o : ℕ}
+    → k ≡ getD u 5 0 → m ≡ k → l ≡ getD v 5 0 → o ≡ l → InRows u i v j n m o
+rows-begun h n es et ek em el eo =
+    let s = es ∙ states-word (h .first .sheet) in
+    let t = et ∙ states-word (h .second .sheet) in
+    record {
+      both = h;
+      sizes = λ i. record { of-S = s i; of-T = t i };
+      number = sym (em ∙ ek ∙ rules-word (h .first .sheet));
+      others = sym (eo ∙ el ∙ rules-word (h .second .sheet));
+    }
 
-module _ {u i v j : List ℕ} {m k : ℕ} (h : InRows u i v j m) where
+module _ {u i v j : List ℕ} {n : Sizes} {m o k : ℕ} (h : InRows u i v j n m o) where
   pub rows-done : m ≤ k → rows-from u v k ≡ []
   unfolding joint-rules
   rows-done l = rules-none (rules-in u) (h .number) l (λ r. flatMap (pair-rule (sizes-in u v) r) (rules-in v))
 
   module _ (l : k < m) {x : Spot} (e : SpotIn i k x) where
     -- rule k that S's index tells
-    pub row-here : RowOf u v j x
+    pub row-here : RowOf u v j (record { rule = x; sizes = n; others = o })
     row-here = record {
       first = h .both .first .sheet;
       second = h .both .second;
       few = h .both .few;
       rule = spot-found (h .both .first) (omega (arith, h .number)) e;
+      sizes = h .sizes;
+      others = h .others;
     }
 
     pub rows-next : rows-from u v k ≡ row-in u v x ++ rows-from u v (k + 1)

@@ -2,6 +2,7 @@
 use mathlib.Core.Path.{_≡_}
 use mathlib.Core.List.{List, flatMap}
 use Prim.Native.Nat.{ℕ, _≤_}
+use lib.ListN.{length}
 use Rattle.model.specs.Lists.{_∈_}
 use Rattle.model.specs.Sheet.{Rule}
 use Rattle.model.specs.Compose as model
@@ -11,6 +12,7 @@ use Rattle.join_pairs.specs.declared.Sizes.{Sizes}
 use Rattle.join_pairs.specs.Sides.{sizes-of, FewPairs}
 use Rattle.join_alike.specs.declared.Spot.{Spot}
 use Rattle.join_alike.specs.declared.RulePair.{RulePair}
+use Rattle.join_alike.specs.declared.Row.{Row}
 use Rattle.join_alike.specs.Spots.{rule-of, SpotOf}
 
 -- ---- the sheets of the words u and v
@@ -30,12 +32,14 @@ pub record Joinable (u i v j : List ℕ) : Type 0 where
   pub second : Indexed v j
   pub few : FewPairs (sizes-in u v)
 
--- The same, where the rules of T meet the rule x of S alone.
-pub record RowOf (u v j : List ℕ) (x : Spot) : Type 0 where
+-- The same, where the rules of T meet one rule of S.
+pub record RowOf (u v j : List ℕ) (r : Row) : Type 0 where
   pub first : Passes u
   pub second : Indexed v j
   pub few : FewPairs (sizes-in u v)
-  pub rule : SpotOf u x
+  pub rule : SpotOf u (r .rule)
+  pub sizes : sizes-of (r .sizes) ≡ sizes-in u v
+  pub others : length (rules-in v) ≡ r .others
 
 -- the joint rules of the rule x of S
 abbrev pub row-in : List ℕ → List ℕ → Spot → List Rule

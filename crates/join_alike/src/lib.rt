@@ -30,6 +30,13 @@ pub struct RulePair {
     pub t: Spot,
 }
 
+// A rule of S that meets rules of T, and what is the same for all rules of S: how many states the two sheets have, and how many rules T.
+pub struct Row {
+    pub rule: Spot,
+    pub sizes: Sizes,
+    pub others: usize,
+}
+
 // How many states the two sheets have, by their words.
 pub fn sizes_of(first: &[u32], second: &[u32]) -> Sizes
     ensures s { λ r. ⌜ r .s ≡ getD (now (first .entry)) 1 0 ⌝ }

@@ -17,7 +17,7 @@ use Rattle.model.proofs.JoinRange.{pair-rule-count}
 use Rattle.model.proofs.PassedLaws.{in-range}
 use Rattle.limits.specs.Limits.{place, first-of}
 use Rattle.limits.proofs.LimitLaws.{place-least}
-use Rattle.join_alike.specs.declared.Spot.{Spot}
+use Rattle.join_alike.specs.declared.Row.{Row}
 use Rattle.join_alike.specs.Spots.{rule-of}
 use Rattle.join_alike.specs.Alike.{sizes-in, pairs-in, RowOf, row-in}
 use Rattle.join_limits.specs.declared.Tally.{Tally}
@@ -115,22 +115,22 @@ module _ {p : ℕ} {rs : List Rule} {t : Tally} {rest : List Rule} (h : TallyLef
 
 -- ---- a row has at most one joint rule for each rule of T
 
-module _ {u v index : List ℕ} {x : Spot} (h : RowOf u v index x) where
-  row-few : length (row-in u v x) ≤ 1024
+module _ {u v index : List ℕ} {r : Row} (h : RowOf u v index r) where
+  row-few : length (row-in u v (r .rule)) ≤ 1024
   row-few =
-      let f = pair-rule (sizes-in u v) (rule-of u x) in
-      omega (arith, length-each f 1 (pair-rule-count (sizes-in u v) (rule-of u x)) (rules-in v), in-range (h .second .sheet) .few-rules)
+      let f = pair-rule (sizes-in u v) (rule-of u (r .rule)) in
+      omega (arith, length-each f 1 (pair-rule-count (sizes-in u v) (rule-of u (r .rule))) (rules-in v), in-range (h .second .sheet) .few-rules)
 
-  pub row-small : {t : Tally} → TallyOf (pairs-in u v) (row-in u v x) t → t .rules ≤ 1024
+  pub row-small : {t : Tally} → TallyOf (pairs-in u v) (row-in u v (r .rule)) t → t .rules ≤ 1024
   row-small k = omega (arith, k .rules, row-few)
 
-  pub row-counted : {p : ℕ} {t : Tally} {rest : List Rule} → TallyLeft p (row-in u v x) t rest → t .rules ≤ 1024
+  pub row-counted : {p : ℕ} {t : Tally} {rest : List Rule} → TallyLeft p (row-in u v (r .rule)) t rest → t .rules ≤ 1024
   row-counted l = omega (arith, l .rules, row-few)
 
-  pub pair-room : {p : ℕ} (n : model.Sizes) (y : Rule) {s t : Tally} {rest : List Rule} → TallyLeft p (row-in u v x) t rest
-      → TallyOf p (pair-rule n (rule-of u x) y) s
+  pub pair-room : {p : ℕ} (n : model.Sizes) (y : Rule) {s t : Tally} {rest : List Rule} → TallyLeft p (row-in u v (r .rule)) t rest
+      → TallyOf p (pair-rule n (rule-of u (r .rule)) y) s
       → t .rules + s .rules ≤ 2048
-  pair-room n y l k = omega (arith, l .rules, k .rules, pair-rule-count n (rule-of u x) y, row-few)
+  pair-room n y l k = omega (arith, l .rules, k .rules, pair-rule-count n (rule-of u (r .rule)) y, row-few)
 
 -- ---- the first of all limits
 

@@ -6,7 +6,7 @@ use mathlib.Core.Option.{none, some}
 use Prim.Native.Nat.{ℕ, _*_, _^_, _≤_, _<_}
 use native.Mathlib.Omega.{arith}
 use lib.Dec.{leb}
-use lib.ListN.{length, getD, length-append}
+use lib.ListN.{length, length-append}
 use Rattle.model.specs.Lists.{every}
 use Rattle.model.specs.Sheet.{Rule, one, two, three, rule-words}
 use Rattle.model.specs.Index.{sheet-in}
@@ -16,11 +16,11 @@ use Rattle.limits.specs.Limits.{first-of}
 use Rattle.join_pairs.specs.declared.Sizes.{Sizes}
 use Rattle.join_pairs.specs.declared.Side.the-variants as code
 use Rattle.join_pairs.specs.Sides.{sizes-of}
-use Rattle.join_alike.specs.declared.Spot.{Spot}
+use Rattle.join_alike.specs.declared.Row.{Row}
 use Rattle.join_alike.specs.declared.RulePair.{RulePair}
 use Rattle.join_alike.specs.Spots.{rule-of}
 use Rattle.join_alike.specs.Alike.{pairs-in, RowOf, Alike, pair-in}
-use Rattle.join_alike.proofs.AlikeLaws.{JointOf, texts, tags, contents, alike-paired, paired-rule, sizes-found}
+use Rattle.join_alike.proofs.AlikeLaws.{JointOf, texts, tags, contents, alike-paired, paired-rule}
 use Rattle.join_extents.specs.declared.Extent.{Extent}
 use Rattle.join_extents.specs.Extents.{RuleOf, extent-of, extent-in, joint-extent, fixed-words, words-of}
 use Rattle.join_extents.proofs.ExtentLaws.{joint-sized}
@@ -95,8 +95,6 @@ module _ {u v : List ℕ} {n : Sizes} {r : RulePair} (h : Alike u v n r) where
   pub rule-of-T : RuleOf code.T n v (r .t)
   rule-of-T = record { spot = h .second; states = ap (λ (m : model.Sizes). m .of-T) (sym (h .sizes)); few = h .few }
 
-pub rule-of-S : {u v index : List ℕ} {x : Spot} → RowOf u v index x → (n : Sizes) → n .s ≡ getD u 1 0 → n .t ≡ getD v 1 0
-    → RuleOf code.S n u x
-rule-of-S h n es et =
-    let same = sizes-found h n es et in
-    record { spot = h .rule; states = ap (λ (m : model.Sizes). m .of-S) (sym same); few = rw same (h .few) }
+pub rule-of-S : {u v index : List ℕ} {r : Row} → RowOf u v index r → RuleOf code.S (r .sizes) u (r .rule)
+rule-of-S h =
+    record { spot = h .rule; states = ap (λ (m : model.Sizes). m .of-S) (sym (h .sizes)); few = rw (h .sizes) (h .few) }

@@ -6,7 +6,7 @@ ghost use Rattle.join_alike.specs.Alike.{pairs-in, joint-rules-in, Joinable, Ro
 ghost use Rattle.join_alike.specs.Spots.{rule-of};
 ghost use Rattle.join_extents.specs.Extents.{Small, joint-extent, fixed-words};
 ghost use Rattle.join_limits.specs.Limits.{tally-by, FewFor, TallyOf, Tallied, LimitOf};
-use join_alike::Spot;
+use join_alike::Row;
 use join_alike::first_alike;
 use join_alike::next_alike;
 use join_alike::sizes_of;
@@ -75,15 +75,15 @@ fn with_more(t: Tally, u: Tally) -> Tally
 }
 
 // The tally of the joint rules of a rule of S of a text or a tag, which have no parts: as many as there are rules of T with its key.
-fn tally_plain(first: &[u32], second: &[u32], index: &[u32], x: Spot) -> Tally
-    requires { ⌜ RowOf (now first) (now second) (now index) x × (2 < fixed-words (rule-of (now first) x)) ⌝ }
+fn tally_plain(first: &[u32], second: &[u32], index: &[u32], row: Row) -> Tally
+    requires { ⌜ RowOf (now first) (now second) (now index) row × (2 < fixed-words (rule-of (now first) (row .rule))) ⌝ }
     ensures { λ r. ⌜ TallyOf (pairs-in (now (first .entry)) (now (second .entry)))
-        (row-in (now (first .entry)) (now (second .entry)) x) r ⌝ }
+        (row-in (now (first .entry)) (now (second .entry)) (row .rule)) r ⌝ }
 {
-    let n = wide(at(second, RULES));
+    let x = row.rule;
     let mut rules = 0;
     let mut j = first_alike(first, x, index);
-    while j < n {
+    while j < row.others {
         rules += 1;
         j = next_alike(index, j);
     }
@@ -95,13 +95,14 @@ fn tally_plain(first: &[u32], second: &[u32], index: &[u32], x: Spot) -> Tally
 }
 
 // The tally of the joint rules of a rule of S and the rules of T with its key, along their chain, by the extents of each.
-fn tally_contents(first: &[u32], second: &[u32], index: &[u32], x: Spot) -> Tally
-    requires { ⌜ RowOf (now first) (now second) (now index) x ⌝ }
+fn tally_contents(first: &[u32], second: &[u32], index: &[u32], row: Row) -> Tally
+    requires { ⌜ RowOf (now first) (now second) (now index) row ⌝ }
     ensures { λ r. ⌜ TallyOf (pairs-in (now (first .entry)) (now (second .entry)))
-        (row-in (now (first .entry)) (now (second .entry)) x) r ⌝ }
+        (row-in (now (first .entry)) (now (second .entry)) (row .rule)) r ⌝ }
 {
-    let sizes = sizes_of(first, second);
-    let n = wide(at(second, RULES));
+    let x = row.rule;
+    let sizes = row.sizes;
+    let n = row.others;
     let own = extent_at(first, x, Side::S, sizes);
     let mut tally = Tally {
         rules: 0,
@@ -118,15 +119,16 @@ fn tally_contents(first: &[u32], second: &[u32], index: &[u32], x: Spot) -> Tall
 }
 
 // The tally of the joint rules of a rule of S and the rules of T with its key.
-fn tally_row(first: &[u32], second: &[u32], index: &[u32], x: Spot) -> Tally
-    requires { ⌜ RowOf (now first) (now second) (now index) x ⌝ }
+fn tally_row(first: &[u32], second: &[u32], index: &[u32], row: Row) -> Tally
+    requires { ⌜ RowOf (now first) (now second) (now index) row ⌝ }
     ensures { λ r. ⌜ TallyOf (pairs-in (now (first .entry)) (now (second .entry)))
-        (row-in (now (first .entry)) (now (second .entry)) x) r ⌝ }
+        (row-in (now (first .entry)) (now (second .entry)) (row .rule)) r ⌝ }
 {
+    let x = row.rule;
     if CONTENT_WORDS < fixed_words(first, x) {
-        return tally_plain(first, second, index, x);
+        return tally_plain(first, second, index, row);
     }
-    tally_contents(first, second, index, x)
+    tally_contents(first, second, index, row)
 }
 
 // The tally of the joint rules of all rules of S, or of so many of them that there are too many joint rules.
@@ -135,7 +137,9 @@ fn tally_rows(first: &[u32], firsts: &[u32], second: &[u32], seconds: &[u32]) ->
     ensures { λ r. ⌜ Tallied (pairs-in (now (first .entry)) (now (second .entry)))
         (joint-rules-in (now (first .entry)) (now (second .entry))) r ⌝ }
 {
+    let sizes = sizes_of(first, second);
     let m = wide(at(first, RULES));
+    let others = wide(at(second, RULES));
     let mut tally = Tally {
         rules: 0,
         place: PLACE_WORDS,
@@ -146,7 +150,12 @@ fn tally_rows(first: &[u32], firsts: &[u32], second: &[u32], seconds: &[u32]) ->
         if MOST_RULES < tally.rules {
             return tally;
         }
-        tally = with_more(tally, tally_row(first, second, seconds, spot_of(firsts, i)));
+        let row = Row {
+            rule: spot_of(firsts, i),
+            sizes,
+            others,
+        };
+        tally = with_more(tally, tally_row(first, second, seconds, row));
         i += 1;
     }
     tally

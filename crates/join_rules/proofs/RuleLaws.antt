@@ -17,6 +17,7 @@ use Rattle.page.proofs.PageLaws.{as-words, Left, more}
 use Rattle.join_pairs.specs.declared.Sizes.{Sizes}
 use Rattle.join_alike.specs.declared.Spot.{Spot}
 use Rattle.join_alike.specs.declared.RulePair.{RulePair}
+use Rattle.join_alike.specs.declared.Row.{Row}
 use Rattle.join_alike.specs.Spots.{SpotIn, parts-of}
 use Rattle.join_alike.specs.Alike.{sizes-in, joint-rules-in, row-in, Alike, pair-in, FewPositions}
 use Rattle.join_alike.proofs.AlikeLaws.{JointOf, texts, tags, contents, alike-paired, InRow, row-from, row-next, row-among, row-done}
@@ -79,31 +80,31 @@ module _ {u v : List ℕ} {n : Sizes} {r : RulePair} (h : Alike u v n r) where
 
 -- ---- rows
 
-module _ {u v index : List ℕ} {x : Spot} {n : Sizes} {m j : ℕ} (h : InRow u v index x n m j) (l : j < m) {y : Spot}
-    (e : SpotIn index j y) where
+module _ {u v index : List ℕ} {r : Row} {j : ℕ} (h : InRow u v index r j) where
   abbrev words : Rule → List ℕ
   words = rule-words (of-pairs (sizes-in u v))
 
-  -- the rules from the next of the chain on
-  pub row-written : {i : ℕ} → i ≡ getD index (67 + j) 0 / 2 ^ 16 → {l₀ ws l l′ : List ℕ} {i₀ k k′ : ℕ}
-      → Left l₀ i₀ ws l k (flatMap words (row-from u v x j)) → Writes l k (pair-words u v n (record { s = x; t = y })) l′ k′
-      → InRow u v index x n m i × Left l₀ i₀ ws l′ k′ (flatMap words (row-from u v x i))
-  row-written {i} f left w =
-      let (walk, next, _) = row-next h l e f in
-      let made = pair-in u v n (record { s = x; t = y }) in
-      let all = ap (flatMap words) next ∙ each-append words made (row-from u v x i)
-      ∙ ap (λ (k : model.Sizes). flatMap (rule-words (of-pairs k)) made ++ flatMap words (row-from u v x i)) (sym (h .sizes)) in
-      (walk, more left all w)
+  module _ (l : j < r .others) {y : Spot} (e : SpotIn index j y) where
+    -- the rules from the next of the chain on
+    pub row-written : {i : ℕ} → i ≡ getD index (67 + j) 0 / 2 ^ 16 → {l₀ ws l l′ : List ℕ} {i₀ k k′ : ℕ}
+        → Left l₀ i₀ ws l k (flatMap words (row-from u v (r .rule) j))
+        → Writes l k (pair-words u v (r .sizes) (record { s = r .rule; t = y })) l′ k′
+        → InRow u v index r i × Left l₀ i₀ ws l′ k′ (flatMap words (row-from u v (r .rule) i))
+    row-written {i} f left w =
+        let (walk, next, _) = row-next h l e f in
+        let made = pair-in u v (r .sizes) (record { s = r .rule; t = y }) in
+        let all = ap (flatMap words) next ∙ each-append words made (row-from u v (r .rule) i)
+        ∙ ap (λ (k : model.Sizes). flatMap (rule-words (of-pairs k)) made ++ flatMap words (row-from u v (r .rule) i)) (sym (h .row .sizes)) in
+        (walk, more left all w)
 
-  pub pair-few : FewPositions (row-in u v x) → FewPositions (pair-in u v n (record { s = x; t = y }))
-  pair-few few z k = few z (row-among h l e k)
+    pub pair-few : FewPositions (row-in u v (r .rule)) → FewPositions (pair-in u v (r .sizes) (record { s = r .rule; t = y }))
+    pair-few few z k = few z (row-among h l e k)
 
-pub row-words-done : {u v index : List ℕ} {x : Spot} {n : Sizes} {m j : ℕ} → InRow u v index x n m j → m ≤ j
-    → flatMap (rule-words (of-pairs (sizes-in u v))) (row-from u v x j) ≡ []
-unfolding flatMap
-row-words-done {u} {v} h l = ap (flatMap (rule-words (of-pairs (sizes-in u v)))) (row-done h l)
+  pub row-words-done : r .others ≤ j → flatMap words (row-from u v (r .rule) j) ≡ []
+  unfolding flatMap
+  row-words-done l = ap (flatMap words) (row-done h l)
 
-module _ {u i v j : List ℕ} {m k : ℕ} (h : InRows u i v j m) where
+module _ {u i v j : List ℕ} {n : Sizes} {m o k : ℕ} (h : InRows u i v j n m o) where
   pub rows-words-next : k < m → {x : Spot} → SpotIn i k x → flatMap (rule-words (of-pairs (sizes-in u v))) (rows-from u v k)
       ≡ row-words u v x ++ flatMap (rule-words (of-pairs (sizes-in u v))) (rows-from u v (k + 1))
   rows-words-next l {x} e =

@@ -5,8 +5,8 @@ ghost use Rattle.page.specs.Page.{Writes};
 ghost use Rattle.join_alike.specs.Alike.{joint-rules-in, Joinable, RowOf, row-in, Alike, pair-in, FewPositions};
 ghost use Rattle.join_contents.specs.Parts.{pair-words};
 ghost use Rattle.join_rules.specs.Written.{row-words, joint-words};
+use join_alike::Row;
 use join_alike::RulePair;
-use join_alike::Spot;
 use join_alike::first_alike;
 use join_alike::next_alike;
 use join_alike::sizes_of;
@@ -90,16 +90,17 @@ fn put_row(
     first: &[u32],
     second: &[u32],
     index: &[u32],
-    x: Spot,
+    row: Row,
     out: &mut [u32],
     at: usize,
 ) -> usize
-    requires row { ⌜ RowOf (now first) (now second) (now index) x ⌝ }
-    requires few { ⌜ FewPositions (row-in (now first) (now second) x) ⌝ }
-    ensures { λ r. ⌜ Writes (now (out .entry)) at (row-words (now (first .entry)) (now (second .entry)) x) (now (out .exit)) r ⌝ }
+    requires row { ⌜ RowOf (now first) (now second) (now index) row ⌝ }
+    requires few { ⌜ FewPositions (row-in (now first) (now second) (row .rule)) ⌝ }
+    ensures { λ r. ⌜ Writes (now (out .entry)) at (row-words (now (first .entry)) (now (second .entry)) (row .rule)) (now (out .exit)) r ⌝ }
 {
-    let sizes = sizes_of(first, second);
-    let n = wide(parts::at(second, RULES));
+    let x = row.rule;
+    let sizes = row.sizes;
+    let n = row.others;
     let mut next = at;
     let mut j = first_alike(first, x, index);
     while j < n {
@@ -126,11 +127,18 @@ pub fn put_rules(
     requires few { ⌜ FewPositions (joint-rules-in (now first) (now second)) ⌝ }
     ensures { λ r. ⌜ Writes (now (out .entry)) at (joint-words (now (first .entry)) (now (second .entry))) (now (out .exit)) r ⌝ }
 {
+    let sizes = sizes_of(first, second);
     let m = wide(parts::at(first, RULES));
+    let others = wide(parts::at(second, RULES));
     let mut next = at;
     let mut i = 0;
     while i < m {
-        next = put_row(first, second, seconds, spot_of(firsts, i), out, next);
+        let row = Row {
+            rule: spot_of(firsts, i),
+            sizes,
+            others,
+        };
+        next = put_row(first, second, seconds, row, out, next);
         i += 1;
     }
     next

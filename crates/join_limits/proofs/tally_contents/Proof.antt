@@ -13,21 +13,22 @@ use Rattle.join_limits.proofs.tally_contents.Tie as tie
 
 abbrev Inv-loop : tie.InvT-loop
 Inv-loop first second index x sizes n own tally₀ j₀ tally j =
-    InRow first second index x sizes n j × TallyLeft (pairs-in first second) (row-in first second x) tally (row-from first second x j)
+    InRow first second index (record { rule = x; sizes = sizes; others = n }) j
+    × TallyLeft (pairs-in first second) (row-in first second x) tally (row-from first second x j)
 
 abbrev μ-loop : tie.MeasureT-loop
 μ-loop first second index x sizes n own tally₀ j₀ tally j = n - j
 
--- the rule of T that meets x
+-- the rule of T that meets S's
 module _ (c : tie.After-spot-of Inv-loop μ-loop) where
   abbrev read : tie.After-extent-at Inv-loop μ-loop
   read = c .before .before .before .before
 
   abbrev start : tie.Start Inv-loop μ-loop
-  start = read .before .before .before .before .before .before .before
+  start = read .before .before .before .before .before .before
 
-  alike : let n = read .before .before .before .sizes-of .result in
-      Alike (now (start .args .first)) (now (start .args .second)) n (record { s = start .args .x; t = c .spot-of .result })
+  alike : let r = start .args .row in
+      Alike (now (start .args .first)) (now (start .args .second)) (r .sizes) (record { s = r .rule; t = c .spot-of .result })
   alike = row-alike (c .before .before .loop .inv .0) (c .before .loop-test .taken) (c .spot-of .ensures)
 
 -- what the two make
@@ -35,9 +36,8 @@ module _ (c : tie.After-tally-pair Inv-loop μ-loop) where
   abbrev found : tie.After-spot-of Inv-loop μ-loop
   found = c .before .before .before
 
-  tallied : let s = start found in let n = read found .before .before .before .sizes-of .result in
-      let u = now (s .args .first) in let v = now (s .args .second) in
-      TallyOf (pairs-in u v) (pair-in u v n (record { s = s .args .x; t = found .spot-of .result })) (c .tally-pair .result)
+  tallied : let s = start found in let u = now (s .args .first) in let v = now (s .args .second) in let r = s .args .row in
+      TallyOf (pairs-in u v) (pair-in u v (r .sizes) (record { s = r .rule; t = found .spot-of .result })) (c .tally-pair .result)
   tallied =
       pair-tallied (alike found) (read found .extent-at .ensures .0) (c .before .before .extent-at2 .ensures .0)
       (c .before .fixed-words .ensures .0) (c .tally-pair .ensures .0) (c .tally-pair .ensures .1)
@@ -48,18 +48,11 @@ tally-contents-spec =
     (tie.spec
     Inv-loop
     μ-loop
-    (λ c κs. search needs)
-    (λ c κs. search needs)
-    (λ c κs. search needs)
-    (λ c κs.
-    let n = c .before .before .sizes-of in
-    rule-of-S (c .before .before .before .before .before .before .pre) (n .result) (n .ensures .0) (n .ensures .1))
+    (λ c κs. rule-of-S (c .before .before .before .before .before .pre))
     (λ c κs. search needs)
     (λ c.
-    let n = c .before .before .before .before .sizes-of in
-    let (walk, all) = row-begun (c .before .before .before .before .before .before .before .before .pre) (n .result) (n .ensures .0)
-    (n .ensures .1) (c .before .before .before .at .ensures) (c .before .before .wide .ensures) (c .first-alike .ensures .0)
-    (c .first-alike .ensures .1) in
+    let pre = c .before .before .before .before .before .before .before .pre in
+    let (walk, all) = row-begun pre (c .first-alike .ensures .0) (c .first-alike .ensures .1) in
     (walk, tally-begun all))
     (λ c κs. search needs)
     (λ c κs. rule-of-T (alike c))
@@ -82,4 +75,4 @@ tally-contents-spec =
     let (further, next, _) = row-next walk (found .before .loop-test .taken) (found .spot-of .ensures) (c .next-alike .ensures) in
     let (rules, (place, words)) = c .before .with-more .ensures in
     (further, tally-more left next (tallied pair) rules place words))
-    (λ c. search (tally-done, row-done, needs)))
+    (λ c. tally-done (c .before .loop .inv .1) (row-done (c .before .loop .inv .0) (c .loop-test .left))))

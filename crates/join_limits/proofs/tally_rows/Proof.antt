@@ -9,11 +9,11 @@ use Rattle.join_limits.proofs.tally_rows.Statement.{statement}
 use Rattle.join_limits.proofs.tally_rows.Tie as tie
 
 abbrev Inv-loop : tie.InvT-loop
-Inv-loop first firsts second seconds m tally₀ i₀ tally i =
-    InRows first firsts second seconds m × TallyLeft (pairs-in first second) (joint-rules-in first second) tally (rows-from first second i)
+Inv-loop first firsts second seconds sizes m others tally₀ i₀ tally i =
+    InRows first firsts second seconds sizes m others × TallyLeft (pairs-in first second) (joint-rules-in first second) tally (rows-from first second i)
 
 abbrev μ-loop : tie.MeasureT-loop
-μ-loop first firsts second seconds m tally₀ i₀ tally i = m - i
+μ-loop first firsts second seconds sizes m others tally₀ i₀ tally i = m - i
 
 pub tally-rows-spec : {M : Type 1} → statement M
 tally-rows-spec =
@@ -21,6 +21,9 @@ tally-rows-spec =
     (tie.spec
     Inv-loop
     μ-loop
+    (λ c κs. search needs)
+    (λ c κs. search needs)
+    (λ c κs. search needs)
     (λ c κs. search needs)
     (λ c κs. search needs)
     (λ c. search (rows-begun, tally-begun, needs))

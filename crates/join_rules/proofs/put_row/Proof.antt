@@ -15,13 +15,13 @@ use Rattle.join_rules.proofs.put_row.Statement.{statement}
 use Rattle.join_rules.proofs.put_row.Tie as tie
 
 abbrev Inv-loop : tie.InvT-loop
-Inv-loop first second index x out₀ begin sizes n next₀ j₀ out next j =
-    InRow first second index x sizes n j
+Inv-loop first second index out₀ begin x sizes n next₀ j₀ out next j =
+    InRow first second index (record { rule = x; sizes = sizes; others = n }) j
     × Left out₀ begin (row-words first second x) out next
     (flatMap (rule-words (of-pairs (sizes-in first second))) (row-from first second x j))
 
 abbrev μ-loop : tie.MeasureT-loop
-μ-loop first second index x out₀ begin sizes n next₀ j₀ out next j = n - j
+μ-loop first second index out₀ begin x sizes n next₀ j₀ out next j = n - j
 
 pub put-row-spec : {M : Type 1} → statement M
 put-row-spec =
@@ -30,17 +30,9 @@ put-row-spec =
     Inv-loop
     μ-loop
     (λ c κs. search needs)
-    (λ c κs. search needs)
-    (λ c κs. search needs)
-    (λ c κs. search needs)
     (λ c.
-    let after-wide = c .before in
-    let after-at = after-wide .before in
-    let after-sizes-of = after-at .before in
-    let start = after-sizes-of .before .before .before .before .before in
-    let n = after-sizes-of .sizes-of in
-    let (walk, all) = row-begun (start .pre .0) (n .result) (n .ensures .0) (n .ensures .1) (after-at .at .ensures)
-    (after-wide .wide .ensures) (c .first-alike .ensures .0) (c .first-alike .ensures .1) in
+    let pre = c .before .before .before .before .before .before .before .pre in
+    let (walk, all) = row-begun (pre .0) (c .first-alike .ensures .0) (c .first-alike .ensures .1) in
     (walk, begun (ap (flatMap (rule-words (of-pairs (sizes-in _ _)))) (sym all))))
     (λ c κs. search needs)
     (λ c κs. (search (row-alike, needs), search (pair-few, needs)))
@@ -55,4 +47,4 @@ put-row-spec =
     row-written (loop .inv .0) (found .before .loop-test .taken) (found .spot-of .ensures) (c .next-alike .ensures) (loop .inv .1)
     (c .before .before .before .put-pair .ensures))
     (λ c. search (kept, needs))
-    (λ c. search (done, row-words-done, needs)))
+    (λ c. done (c .before .loop .inv .1) (row-words-done (c .before .loop .inv .0) (c .loop-test .left))))
