@@ -1,4 +1,4 @@
-// The joint rules of content rules, and the pair of two rules' targets.
+// The joint rules of content rules.
 ghost use mathlib.Core.Path.{_≡_};
 ghost use mathlib.Core.Logic.{_≢_};
 ghost use lib.ListN.{getD};
@@ -26,7 +26,7 @@ use layout::ORDER_RULE;
 use page::put;
 
 // The pair of the targets of two rules.
-pub fn joint_target(first: &[u32], second: &[u32], rules: RulePair, sizes: Sizes) -> u32
+fn joint_target(first: &[u32], second: &[u32], rules: RulePair, sizes: Sizes) -> u32
     requires { ⌜ Alike (now first) (now second) sizes rules ⌝ }
     ensures { λ r. ⌜ r ≡ target-in (now (first .entry)) (now (second .entry)) sizes rules ⌝ }
 {

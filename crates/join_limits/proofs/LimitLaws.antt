@@ -119,7 +119,8 @@ module _ {u v index : List ℕ} {r : Row} (h : RowOf u v index r) where
   row-few : length (row-in u v (r .rule)) ≤ 1024
   row-few =
       let f = pair-rule (sizes-in u v) (rule-of u (r .rule)) in
-      omega (arith, length-each f 1 (pair-rule-count (sizes-in u v) (rule-of u (r .rule))) (rules-in v), in-range (h .second .sheet) .few-rules)
+      let one = pair-rule-count (sizes-in u v) (rule-of u (r .rule)) in
+      omega (arith, length-each f 1 one (rules-in v), in-range (h .second .sheet) .few-rules)
 
   pub row-small : {t : Tally} → TallyOf (pairs-in u v) (row-in u v (r .rule)) t → t .rules ≤ 1024
   row-small k = omega (arith, k .rules, row-few)

@@ -4,14 +4,13 @@ ghost use lib.ListN.{getD};
 ghost use Rattle.page.specs.Page.{Writes};
 ghost use Rattle.join_alike.specs.Alike.{joint-rules-in, Joinable, RowOf, row-in, Alike, pair-in, FewPositions};
 ghost use Rattle.join_contents.specs.Parts.{pair-words};
-ghost use Rattle.join_rules.specs.Written.{row-words, joint-words};
+ghost use Rattle.join_rules.specs.Written.{StatesAt, state-in, row-words, joint-words};
 use join_alike::Row;
 use join_alike::RulePair;
 use join_alike::first_alike;
 use join_alike::next_alike;
 use join_alike::sizes_of;
 use join_alike::spot_of;
-use join_contents::joint_target;
 use join_contents::put_contents;
 use join_pairs::Sizes;
 use join_pairs::pair;
@@ -21,6 +20,16 @@ use layout::TEXT_RULE;
 use layout::wide;
 use page::copy;
 use parts::field;
+
+// The pair of the states that are word k of two rules.
+fn joint_state(first: &[u32], second: &[u32], rules: RulePair, sizes: Sizes, k: usize) -> u32
+    requires { ⌜ StatesAt (now first) (now second) sizes rules k ⌝ }
+    ensures { λ r. ⌜ r ≡ state-in (now (first .entry)) (now (second .entry)) sizes rules k ⌝ }
+{
+    let s = field(first, rules.s.at, k);
+    let t = field(second, rules.t.at, k);
+    pair(sizes.t, s, t)
+}
 
 // Writes the joint rule of two rules of a text: its kind and the pair of the targets.
 fn put_texts(
@@ -36,7 +45,7 @@ fn put_texts(
         (now (out .exit)) r ⌝ }
 {
     let kind = field(first, rules.s.at, 1);
-    let target = joint_target(first, second, rules, sizes);
+    let target = joint_state(first, second, rules, sizes, 2);
     copy(&[TEXT_RULE, kind, target], 0, 3, out, at)
 }
 
@@ -54,10 +63,8 @@ fn put_tags(
         (now (out .exit)) r ⌝ }
 {
     let tag = field(first, rules.s.at, 1);
-    let s = field(first, rules.s.at, 2);
-    let t = field(second, rules.t.at, 2);
-    let inner = pair(sizes.t, s, t);
-    let target = joint_target(first, second, rules, sizes);
+    let inner = joint_state(first, second, rules, sizes, 2);
+    let target = joint_state(first, second, rules, sizes, 3);
     copy(&[TAG_RULE, tag, inner, target], 0, 4, out, at)
 }
 

@@ -10,7 +10,8 @@ use Rattle.join_limits.proofs.tally_rows.Tie as tie
 
 abbrev Inv-loop : tie.InvT-loop
 Inv-loop first firsts second seconds sizes m others tally₀ i₀ tally i =
-    InRows first firsts second seconds sizes m others × TallyLeft (pairs-in first second) (joint-rules-in first second) tally (rows-from first second i)
+    InRows first firsts second seconds sizes m others
+    × TallyLeft (pairs-in first second) (joint-rules-in first second) tally (rows-from first second i)
 
 abbrev μ-loop : tie.MeasureT-loop
 μ-loop first firsts second seconds sizes m others tally₀ i₀ tally i = m - i
