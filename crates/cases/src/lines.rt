@@ -1,11 +1,11 @@
 // Lines: comments, named values and cases. Each is lent as the input up to its end, with its line feed.
 use crate::run::run;
+use cases_scan::byte_at;
+use cases_scan::bytes_of;
+use cases_scan::line_end;
+use cases_scan::named_at;
 use cases_store::buffers::front;
 use cases_store::buffers::sevens;
-use cases_store::scan::byte_at;
-use cases_store::scan::bytes_of;
-use cases_store::scan::line_end;
-use cases_store::scan::named_at;
 use cases_store::store::STORE_WORDS;
 use cases_store::store::Store;
 use cases_store::store::define;

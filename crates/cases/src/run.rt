@@ -2,10 +2,10 @@
 use cases_print::answer;
 use cases_print::judgement;
 use cases_print::text;
+use cases_scan::bytes_of;
 use cases_store::buffers::front_bytes;
 use cases_store::buffers::narrowed;
 use cases_store::buffers::no_bytes;
-use cases_store::scan::bytes_of;
 use cases_store::store::Store;
 use cases_store::store::word_at;
 use cases_values::calls::JUDGE;

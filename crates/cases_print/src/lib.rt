@@ -1,7 +1,7 @@
 // What is printed: lines, answers, and lent buffers.
 ghost use Prim.Native.Nat.{_<_, _^_};
+use cases_scan::bytes_of;
 use cases_store::buffers::widen;
-use cases_store::scan::bytes_of;
 use cases_store::store::word_at;
 use model::Answer;
 use model::Judgement;

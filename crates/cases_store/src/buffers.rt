@@ -1,9 +1,9 @@
 // Arrays that are lent, and bytes as words.
 ghost use mathlib.Core.Path.{_≡_};
 ghost use lib.ListN.{length};
-use crate::scan::byte_at;
-use crate::scan::wide;
 use crate::store::word_at;
+use cases_scan::byte_at;
+use cases_scan::wide;
 
 // the most bytes of a text, a list or a file, and the most room of a buffer
 pub const MOST: usize = 66000;

@@ -3,10 +3,10 @@ use crate::calls::call_of;
 use crate::calls::values_of;
 use crate::values::Values;
 use crate::values::read_values;
-use cases_store::scan::byte_at;
-use cases_store::scan::bytes_of;
-use cases_store::scan::is_lower;
-use cases_store::scan::word_end;
+use cases_scan::byte_at;
+use cases_scan::bytes_of;
+use cases_scan::is_lower;
+use cases_scan::word_end;
 use cases_store::store::STORE_WORDS;
 use cases_store::store::Store;
 

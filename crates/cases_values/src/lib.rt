@@ -1,5 +1,4 @@
-// Lines as they are written: items and operators, values, and calls by their names.
+// Lines as they are written: values, and calls by their names.
 pub mod calls;
 pub mod contents;
-mod lexer;
 pub mod values;

@@ -1,12 +1,12 @@
 // The values of a line: the words of items, put on top of the store.
-use crate::lexer::Lexer;
-use crate::lexer::NOTHING;
-use crate::lexer::begin;
-use crate::lexer::go_on;
+use cases_scan::byte_at;
+use cases_scan::bytes_of;
+use cases_scan::is_capital;
+use cases_scan::lexer::Lexer;
+use cases_scan::lexer::NOTHING;
+use cases_scan::lexer::begin;
+use cases_scan::lexer::go_on;
 use cases_store::buffers::no_bytes;
-use cases_store::scan::byte_at;
-use cases_store::scan::bytes_of;
-use cases_store::scan::is_capital;
 use cases_store::store::STORE_WORDS;
 use cases_store::store::Store;
 use cases_store::store::find;

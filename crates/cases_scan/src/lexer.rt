@@ -1,7 +1,7 @@
 // The items and operators of a line, byte by byte.
-use cases_store::scan::digit;
-use cases_store::scan::in_word;
-use cases_store::scan::wide;
+use crate::digit;
+use crate::in_word;
+use crate::wide;
 
 // what the next byte is part of
 pub const NOTHING: u32 = 0;

@@ -1,27 +1,25 @@
--- `line_end` ends, and goes back nowhere.
+-- `word_end` ends.
 use Prim.Native.Nat.{_-_, _≤_}
 use borrow.Author.Needs.{needs}
 use lib.ListN.{length}
-use Rattle.cases_store.proofs.scan.line_end.Statement.{statement}
-use Rattle.cases_store.proofs.scan.line_end.Tie as tie
+use Rattle.cases_scan.proofs.word_end.Statement.{statement}
+use Rattle.cases_scan.proofs.word_end.Tie as tie
 
 abbrev Inv-loop : tie.InvT-loop
-Inv-loop text from i₀ i = from ≤ i
+Inv-loop bytes at i₀ i = 0 ≤ i
 
 abbrev μ-loop : tie.MeasureT-loop
-μ-loop text from i₀ i = length text - i
+μ-loop bytes at i₀ i = length bytes - i
 
-pub line-end-spec : {M : Type 1} → statement M
-line-end-spec =
+pub word-end-spec : {M : Type 1} → statement M
+word-end-spec =
     tie.close
     (tie.spec
     Inv-loop
     μ-loop
     (λ c. search needs)
     (λ c κs. search needs)
-    (λ c. search needs)
     (λ c κs. search needs)
-    (λ c. search needs)
     (λ c. search needs)
     (λ c. search needs)
     (λ c. search needs)

@@ -1,5 +1,7 @@
-// Bytes of the input. A line is lent as the input up to the line's end, with its line feed.
+// Bytes of the input, its lines, and the items of a line. A line is lent as the input up to the line's end, with its line feed.
 ghost use Prim.Native.Nat.{_<_, _≤_};
+
+pub mod lexer;
 
 pub fn wide(b: u8) -> u32
     ensures { λ r. ⌜ r < 256 ⌝ }
