@@ -1,2 +1,1 @@
 mod ChildLaws
-mod LookLaws

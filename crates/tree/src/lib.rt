@@ -4,70 +4,22 @@ ghost use mathlib.Core.Bool.{false};
 ghost use Prim.Native.Nat.{_*_, _≤_};
 ghost use lib.ListN.{length};
 ghost use Rattle.model.specs.Answers.{said};
-ghost use Rattle.model.specs.Tree.{tag-symbol, look};
 ghost use Rattle.model.specs.Calls.{tree-said};
-ghost use Rattle.tree.specs.Shape.{seen, shape-at};
+ghost use Rattle.tree.specs.Shape.{shape-at};
 use layout::MOST_LEVELS;
 use layout::MOST_NODES;
 use layout::NODE_WORDS;
-use layout::wide;
 use model::Answer;
 use model::Refusal;
-use symbols::Symbol;
-use symbols::symbol_of;
-
-// What stands at a node, under a parent that ends before node `end`.
-enum Seen {
-    // nothing more: the parent ends
-    End,
-    Text,
-    // an element, and the node before which it ends
-    Element(usize),
-    // a node that breaks a rule
-    Breaks,
-}
+use tree_look::Seen;
+use tree_look::is_root;
+use tree_look::look;
 
 // What the children of a node come to.
 enum Shape {
     Whole,
     // the first node that breaks a rule
     Broken(usize),
-}
-
-// Whether a number is one of the tags.
-fn is_tag(tags: u32, symbol: u32) -> bool
-    ensures { λ r. ⌜ r ≡ tag-symbol tags symbol ⌝ }
-{
-    (1 <= symbol) & (symbol <= tags)
-}
-
-// What stands at node i, where `levels` elements may lie one in another and `after_text` says that a text stands just
-// before. A text's symbol makes a text, also where there are so many tags that it is a tag's.
-fn look(tree: &[u32], tags: u32, levels: u32, i: usize, end: usize, after_text: bool) -> Seen
-    requires { ⌜ 4 * end ≤ length (now tree) ⌝ }
-    ensures { λ r. ⌜ seen r ≡ look (now (tree .entry)) tags levels i end «after_text» ⌝ }
-{
-    if end <= i {
-        return Seen::End;
-    }
-    let size = wide(tree[NODE_WORDS * i + 1]);
-    // a true sum: 64 bits hold a node's number and any 32-bit size
-    let next = i + size;
-    match symbol_of(tree[NODE_WORDS * i]) {
-        Symbol::Text(_) => {
-            if (size == 1) & !after_text {
-                return Seen::Text;
-            }
-            Seen::Breaks
-        }
-        Symbol::Tag(number) => {
-            if is_tag(tags, number) & (0 < levels) & (1 <= size) & (next <= end) {
-                return Seen::Element(next);
-            }
-            Seen::Breaks
-        }
-        Symbol::Nothing => Seen::Breaks,
-    }
 }
 
 // The nodes from `first` up to `end`, side by side under one parent; calls itself for what is inside a child element,
@@ -111,8 +63,7 @@ pub fn check(tree: &[u32], tags: u32) -> Answer
     if !counted {
         return Answer::Error(Refusal::Tree(n));
     }
-    let rooted = is_tag(tags, tree[0]) & (wide(tree[1]) == n);
-    if !rooted {
+    if !is_root(tree, tags, n) {
         return Answer::Error(Refusal::Tree(0));
     }
     match children(tree, tags, MOST_LEVELS - 1, 1, n) {

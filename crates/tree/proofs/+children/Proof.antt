@@ -8,13 +8,14 @@ use borrow.Author.Needs.{needs}
 use borrow.Fn.Kinds.{In}
 use borrow.Fn.PlainCycle.{Measures, is, falls, and}
 use Rattle.model.specs.Tree as model
-use Rattle.tree.specs.Shape.{seen, shape-at}
-use Rattle.tree.specs.declared.Seen.{Seen}
+use Rattle.tree_look.specs.Looked.{seen}
+use Rattle.tree_look.specs.declared.Seen.{Seen}
+use Rattle.tree_look.proofs.look.Reads as look-reads
+use Rattle.tree.specs.Shape.{shape-at}
 use Rattle.tree.proofs.ChildLaws.{shape-end, shape-text, shape-whole, shape-inside, shape-breaks, text-within, element-within}
 use Rattle.tree.proofs.children.Reads as children
 use Rattle.tree.proofs.children.Kinds as children-kinds
 use Rattle.tree.proofs.+children.Lts-children as children-lts
-use Rattle.tree.proofs.look.Reads as look-reads
 use Rattle.tree.proofs.+children.{statement}
 use Rattle.tree.proofs.+children.Tie.{close}
 
@@ -35,7 +36,7 @@ children-Inv-loop tree tags levels first end i₀ after-text₀ i after-text = s
 abbrev children-μ-loop : children-lts.MeasureT-loop
 children-μ-loop tree tags levels first end i₀ after-text₀ i after-text = end - i
 
--- what stands at a node, from the answer of `tree::look`
+-- what stands at a node, from the answer of `tree_look::look`
 looked : {s : model.Seen} {r r′ : Seen} → seen r ≡ s → r ≡ r′ → s ≡ seen r′
 looked e q = sym e ∙ ap seen q
 

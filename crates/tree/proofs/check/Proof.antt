@@ -64,10 +64,8 @@ module _ (g : ℕ) (t : List ℕ) where
       rw (r, tree-refuses g t r)
 
 -- node 0 stands, by the tests of the code
-root-stands : (c : tie.Else2) → Yes
-    (rooted (c .before .before .before .before .before .before .before .args .tags)
-    (c .before .before .before .before .before .before .before .args .tree .now))
-root-stands c = not-false _ (rw (c .before .before .before .is-tag .ensures, c .before .wide .ensures) at (c .if2 .left))
+root-stands : (c : tie.Else2) → let a = c .before .before .before .before .args in Yes (rooted (a .tags) (a .tree .now))
+root-stands c = not-false _ (rw (c .before .is-root .ensures) at (c .if2 .left))
 
 pub check-spec : {M : Type 1} → statement M
 unfolding said said-refusal
@@ -75,22 +73,14 @@ check-spec =
     tie.close
     (tie.spec
     (λ c. sym (miscounted _ _ (not-true _ (c .if1 .taken))))
-    (λ c. omega (arith, some-node (c .before .before .before .args .tree .now) (not-false _ (c .before .if1 .left))))
-    (λ c κs. search needs)
-    (λ c. omega (
-      arith,
-      some-node (c .before .before .before .before .before .args .tree .now)
-          (not-false _ (c .before .before .before .if1 .left)),
-    ))
-    (λ c κs. search needs)
-    (λ c. sym (unrooted _ _ (not-false _ (c .before .before .before .before .before .if1 .left))
-    (not-true _ (rw (c .before .before .before .is-tag .ensures, c .before .wide .ensures) at (c .if2 .taken)))))
+    (λ c κs. omega (arith, some-node (c .before .before .args .tree .now) (not-false _ (c .if1 .left))))
+    (λ c. sym (unrooted _ _ (not-false _ (c .before .before .if1 .left))
+    (not-true _ (rw (c .before .is-root .ensures) at (c .if2 .taken)))))
     (λ c. search needs)
     (λ c κs. search needs)
     (λ c. search needs)
     (λ c. search needs)
-    (λ c. sym (whole-said _ _ (not-false _ (c .before .before .before .before .before .before .before .before .if1 .left))
+    (λ c. sym (whole-said _ _ (not-false _ (c .before .before .before .before .before .if1 .left))
     (root-stands (c .before .before .before)) (sym (c .before .before .children .ensures) ∙ c .enum-told .given .1)))
-    (λ c. sym (broken-said _ _ (not-false _ (c .before .before .before .before .before .before .before .before .before .if1 .left))
-    (root-stands (c .before .before .before .before))
-    (sym (c .before .before .before .children .ensures) ∙ c .before .place .given .1))))
+    (λ c. sym (broken-said _ _ (not-false _ (c .before .before .before .before .before .before .if1 .left))
+    (root-stands (c .before .before .before .before)) (sym (c .before .before .before .children .ensures) ∙ c .before .place .given .1))))

@@ -1,13 +1,13 @@
--- `tree::look` meets its contract: each answer is the model's, by what the symbol says and the tests on the way.
+-- `tree_look::look` meets its contract: each answer is the model's, by what the symbol says and the tests on the way.
 use Prim.Native.Nat.{_+_, _*_}
 use native.Mathlib.Omega.{arith}
 use borrow.Author.Needs.{needs}
 use borrow.Author.Tests.{le-leb}
 use Rattle.model.specs.Tree.{look}
 use Rattle.symbols.proofs.MeaningLaws.{means}
-use Rattle.tree.proofs.LookLaws.{text-looked, tag-looked, nothing-looked}
-use Rattle.tree.proofs.look.Statement.{statement}
-use Rattle.tree.proofs.look.Tie as tie
+use Rattle.tree_look.proofs.LookLaws.{text-looked, tag-looked, nothing-looked}
+use Rattle.tree_look.proofs.look.Statement.{statement}
+use Rattle.tree_look.proofs.look.Tie as tie
 
 ends : tie.Need-returns
 unfolding look
