@@ -1,3 +1,2 @@
-pub mod SumWords
 pub mod StepWords
 pub mod CountWords

@@ -17,7 +17,7 @@ use Rattle.join_pairs.specs.Sides.{side-of}
 use Rattle.join_pairs.proofs.NumberLaws.{few-side}
 use Rattle.join_count.specs.declared.Lift.{Lift}
 use Rattle.join_count.specs.Counts.{SmallLift, states-of, SomeStep}
-use Rattle.join_count.proofs.SumWords.{sum-long}
+use Rattle.join_sum.proofs.SumWords.{sum-long}
 
 -- a step that ends before e and begins with a sum: as many words follow as its kind says
 pub record SumStep (p : ℕ) (s : List ℕ) (a e : ℕ) (x : Step) : Type 0 where

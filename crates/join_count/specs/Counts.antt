@@ -2,10 +2,8 @@
 use mathlib.Core.Path.{_≡_}
 use mathlib.Core.List.{List, map, flatMap}
 use Prim.Native.Nat.{ℕ, _+_, _≤_}
-use lib.Seq.{slice}
-use Rattle.model.specs.Lists.{has}
-use Rattle.model.specs.Sheet.{Coefficient, Step, mask, marks, signed-word, sum-words, step-words, count-words, SumInRange}
-use Rattle.model.specs.Compose.{of-side, of-pairs, lift-sum, lift-step}
+use Rattle.model.specs.Sheet.{Step, step-words, count-words}
+use Rattle.model.specs.Compose.{of-side, of-pairs, lift-step}
 use Rattle.model.specs.Spans.{StepAt, CountAt}
 use Rattle.parts.specs.Lengths.{step-length}
 use Rattle.join_pairs.specs.declared.Side.{Side}
@@ -13,7 +11,6 @@ use Rattle.join_pairs.specs.declared.Sizes.{Sizes}
 use Rattle.join_pairs.specs.declared.Places.{Places}
 use Rattle.join_pairs.specs.Sides.{side-of, sizes-of, FewPairs}
 use Rattle.join_count.specs.Sums.{joint-steps}
-use Rattle.join_count.specs.declared.SumHead.{SumHead}
 use Rattle.join_count.specs.declared.Lift.{Lift}
 
 -- a count part over p states is at c
@@ -30,24 +27,6 @@ abbrev pub JoinsCounts : Sizes → (u v : List ℕ) → Places → (List ℕ →
 JoinsCounts n u v at Written =
     (ss ts : List Step) → CountAt (n .s) u (at .s) ss → CountAt (n .t) v (at .t) ts
     → Written (count-words (of-pairs (sizes-of n)) (joint-steps (sizes-of n) ss ts))
-
--- ---- sums
-
--- the words of its coefficients
-abbrev pub times-in : List ℕ → SumHead → List ℕ
-times-in s h = slice (h .from) (h .to) s
-
--- the code has found a sum over p states
-pub record SumOf (p : ℕ) (s : List ℕ) (h : SumHead) (cs : List Coefficient) : Type 0 where
-  pub ranges : SumInRange p cs
-  pub marks : h .marks ≡ mask p (has (marks cs))
-  pub words : times-in s h ≡ map (λ c. signed-word (c .times)) cs
-
--- what is written of it
-abbrev pub LiftsSum : Side → Sizes → List ℕ → SumHead → (List ℕ → Type 0) → Type 0
-LiftsSum side n s h Written =
-    (cs : List Coefficient) → SumOf (of-side (side-of side) (sizes-of n)) s h cs
-    → Written (sum-words (of-pairs (sizes-of n)) (lift-sum (side-of side) (sizes-of n) cs))
 
 -- ---- steps
 

@@ -5,56 +5,20 @@ ghost use Rattle.model.specs.Compose.{of-side};
 ghost use Rattle.page.specs.Page.{Writes};
 ghost use Rattle.join_pairs.specs.Sides.{side-of, sizes-of, FewPairs};
 ghost use Rattle.join_count.specs.Counts.{SomeCount, LiftsCount, JoinsCounts};
-ghost use Rattle.join_count.specs.Counts.{LiftsSum, SmallLift, states-of, SomeStep, LiftsStep, LiftsSteps};
+ghost use Rattle.join_count.specs.Counts.{SmallLift, states-of, SomeStep, LiftsStep, LiftsSteps};
 use join_pairs::Places;
 use join_pairs::Side;
 use join_pairs::Sizes;
+use join_sum::SumHead;
+use join_sum::lift_sum;
 use layout::AND;
 use layout::REMAINDER;
 use layout::wide;
 use page::copy;
 use page::put;
-use page::put_set;
-use page::repeat_all;
-use page::repeat_each;
-use sets::ALL;
-use sets::pair_set;
 
 // the two words of marks before a sum's coefficients
 const MARKS: usize = 2;
-
-// What a sum has: the states that are marked, and from where to where their coefficients are, lowest state first.
-struct SumHead {
-    marks: u64,
-    from: usize,
-    to: usize,
-}
-
-// Writes a sum, lifted: the pairs whose half is marked, the other half any state, then for each of these pairs, in ascending order,
-// the coefficient of its half. The pairs of a state of S are a row, one for each state of T: a coefficient of S is written that
-// often in a row, and all those of T in each row.
-fn lift_sum(
-    words: &[u32],
-    sum: SumHead,
-    side: Side,
-    sizes: Sizes,
-    out: &mut [u32],
-    at: usize,
-) -> usize
-    requires { ⌜ FewPairs (sizes-of sizes) ⌝ }
-    ensures { λ r. ⌜ LiftsSum side sizes (now (words .entry)) sum (λ ws. Writes (now (out .entry)) at ws (now (out .exit)) r) ⌝ }
-{
-    match side {
-        Side::S => {
-            let marked = put_set(out, at, pair_set(sizes.s, sizes.t, sum.marks, ALL));
-            repeat_each(words, sum.from, sum.to, sizes.t, out, marked)
-        }
-        Side::T => {
-            let marked = put_set(out, at, pair_set(sizes.s, sizes.t, ALL, sum.marks));
-            repeat_all(words, sum.from, sum.to, sizes.s, out, marked)
-        }
-    }
-}
 
 // How steps are lifted: of which sheet they are, how many states both have, and by how much step numbers are shifted.
 struct Lift {

@@ -18,7 +18,7 @@ use Rattle.model.proofs.Spans.{word-here, word-next, span-left}
 use Rattle.model.proofs.PartLaws.{PartsLeft, next-part, none-left, each-next, each-none}
 use Rattle.page.specs.Page.{repeated, repeated-each}
 use Rattle.parts.specs.Lengths.{sum-length, step-length}
-use Rattle.join_count.proofs.SumWords.{lifted-times, times-words, times-lifted, sum-long}
+use Rattle.join_sum.proofs.SumWords.{lifted-times, times-words, times-lifted, sum-long}
 use Rattle.join_pairs.specs.Sides.{FewPairs}
 use Rattle.join_pairs.proofs.NumberLaws.{mul-le, few-side, few-other}
 use Rattle.join_count.proofs.StepWords.{step-end}

@@ -4,7 +4,7 @@ use native.Mathlib.Omega.{arith}
 use denote.Ref.{now}
 use Rattle.page.proofs.PageLaws.{then, as-words}
 use Rattle.join_count.specs.Counts.{states-of}
-use Rattle.join_count.proofs.SumWords.{sum-of}
+use Rattle.join_sum.proofs.SumWords.{sum-of}
 use Rattle.join_count.proofs.StepWords.{SumStep, few-states, sum-here}
 use borrow.Author.Needs.{needs}
 use Rattle.join_count.proofs.lift_sum_step.Statement.{statement}

@@ -1,10 +1,10 @@
 -- `lift_sum` meets its contract.
 use Rattle.model.specs.Compose.{S, T}
 use Rattle.page.proofs.PageLaws.{then, as-words}
-use Rattle.join_count.proofs.SumWords.{lifted-sum-words}
+use Rattle.join_sum.proofs.SumWords.{lifted-sum-words}
 use borrow.Author.Needs.{needs}
-use Rattle.join_count.proofs.lift_sum.Statement.{statement}
-use Rattle.join_count.proofs.lift_sum.Tie as tie
+use Rattle.join_sum.proofs.lift_sum.Statement.{statement}
+use Rattle.join_sum.proofs.lift_sum.Tie as tie
 
 pub lift-sum-spec : {M : Type 1} → statement M
 lift-sum-spec =

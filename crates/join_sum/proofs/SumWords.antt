@@ -23,9 +23,9 @@ use Rattle.parts.specs.Lengths.{sum-length}
 use Rattle.sets.specs.Sets.{pair-set}
 use Rattle.sets.proofs.SetLaws.{few-pairs}
 use Rattle.page.specs.Page.{repeated, repeated-each}
-use Rattle.join_count.specs.declared.SumHead.{SumHead}
+use Rattle.join_sum.specs.declared.SumHead.{SumHead}
 use Rattle.model.specs.Spans.{SumAt}
-use Rattle.join_count.specs.Counts.{times-in, SumOf}
+use Rattle.join_sum.specs.Sums.{times-in, SumOf}
 use Rattle.join_pairs.proofs.NumberLaws.{few-S, few-T}
 use Rattle.join_pairs.specs.Sides.{FewPairs}
 use Rattle.model.proofs.PartLaws.{words-from, words-within}
