@@ -1,6 +1,6 @@
 -- State words, node by node, and the highest-numbered node that has a property.
 use mathlib.Core.Path.{_≡_, refl, sym, ap, _∙_, subst}
-use mathlib.Core.Bool.{false}
+use mathlib.Core.Bool.{Bool, false}
 use mathlib.Core.List.{List, [], _∷_, _++_, List·Memᴰ·head, List·Memᴰ·tail, List·Memᴰ·not-nil, Memᴰ·append-right, tail-eq-of-cons-eq}
 use Prim.Native.Nat.{ℕ, zero, suc}
 use native.Mathlib.Omega.{arith}
@@ -10,7 +10,7 @@ use Rattle.model.specs.Lists.{_∈_, has}
 use Rattle.model.specs.Tree.{Element, text, tag, nodes}
 use Rattle.model.specs.Sheet.{Rule}
 use Rattle.model.specs.Relation.{To, NoState, SomeState, StateWord, StatesOf, no-words, a-word, Highest}
-use Rattle.model.specs.Run.{last-zero}
+use Rattle.model.specs.Run.{last-zero, next-if}
 use Rattle.model.proofs.Tests.{Yes, never, Told, yea, nay, told}
 
 -- ---- state words
@@ -66,6 +66,10 @@ module _ {P Q : Element → Type 0} where
 
 -- ---- the highest-numbered node without a state
 
+-- of a node and others after it, by whether one of those has no state
+abbrev StuckBy : List Rule → Element → List Element → List ℕ → Bool → Type 0
+StuckBy R f l st later = Highest (NoState R) (SomeState R) (f ∷ l) (next-if later (last-zero st))
+
 module _ {R : List Rule} where
   some-state : {l : List Element} {st : List ℕ} → StatesOf R l st → has st 0 ≡ false → (f : Element) → f ∈ l → SomeState R f
   unfolding has
@@ -79,11 +83,11 @@ module _ {R : List Rule} where
   stuck-at no-words e = never e
   stuck-at (a-word {f = f} {l = l} {s = zero} {st = st} h t) e = go (told (has st 0)) (λ y. stuck-at t y)
     where
-      go : Told (has st 0) → (Yes (has st 0) → Highest (NoState R) (SomeState R) l (last-zero st))
-          → Highest (NoState R) (SomeState R) (f ∷ l) (last-zero (zero ∷ st))
-      go (yea y) r = rw y (highest-later (r y))
-      go (nay n) r = rw n (highest-here h (some-state t n))
-  stuck-at (a-word {s = suc q} {st = st} h t) e = let y : Yes (has st 0) = rw (eqb·zero-suc q) at e in rw y (highest-later (stuck-at t y))
+      go : Told (has st 0) → (Yes (has st 0) → Highest (NoState R) (SomeState R) l (last-zero st)) → StuckBy R f l st (has st 0)
+      go (yea y) r = subst (StuckBy R f l st) (sym y) (highest-later (r y))
+      go (nay n) r = subst (StuckBy R f l st) (sym n) (highest-here h (some-state t n))
+  stuck-at (a-word {f = f} {l = l} {s = suc q} {st = st} h t) e =
+      let y : Yes (has st 0) = rw (eqb·zero-suc q) at e in subst (StuckBy R f l st) (sym y) (highest-later (stuck-at t y))
 
   -- where the first node has no state
   pub root-stuck : {l : List Element} {st : List ℕ} → StatesOf R l (zero ∷ st) → Highest (NoState R) (SomeState R) l (last-zero (zero ∷ st))
