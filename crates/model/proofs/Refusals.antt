@@ -1,11 +1,13 @@
 -- A computed example for each refusal, 1 to 11 and 20 to 24, with its neighbours: one table, one theorem over its rows.
 use mathlib.Core.Path.{_≡_, refl}
 use mathlib.Core.List.{List, [], _∷_, _++_, flatMap}
-use Prim.Native.Nat.{ℕ}
+use Prim.Native.Nat.{ℕ, _<_}
 use Prim.Native.String.{String}
-use lib.ListN.{length, replicate}
+use native.Mathlib.Omega.{arith}
+use lib.ListN.{length, replicate, length-replicate}
+use borrow.Author.Tests.{lt-leb}
 use Rattle.model.specs.Lists.{_∈_, has, every, only, from, row, grid}
-use Rattle.model.specs.Answers.{Said, count, stuck, refusal, Checked, refuses, _>>=_, _>>_, require, room-for, answer-of}
+use Rattle.model.specs.Answers.{Said, count, stuck, refusal, Checked, passes, refuses, _>>=_, _>>_, require, room-for, answer-of}
 use Rattle.model.specs.Answers.{buffer-after}
 use Rattle.model.specs.Tree.{ε, size, words, nodes, text-symbol, tag-symbol, look, children-by, children, tree-of}
 use Rattle.model.specs.Sheet.{mask, set-words, signed-word, arc-word, order-words, sum-words, step-words, count-words, rule-words}
@@ -160,6 +162,21 @@ table =
     ∷ join-says (1 ∷ 1 ∷ 1 ∷ 0 ∷ 2 ∷ 0 ∷ []) (1 ∷ 2 ∷ 2 ∷ 0 ∷ 2 ∷ 0 ∷ []) (7 ∷ []) (7 ∷ []) (refusal 22 6)
     ∷ []
 
+-- ---- a text and a form that are too long, told by their length alone
+
+names-pass : names-of list ≡ passes 2
+unfolding list bytes has every is class-of class-number letter-byte name-byte is-name same-bytes prepend lines number-from tag-of name-of
+    good-line lines-checked names-of
+names-pass = refl
+
+long-text : (n : ℕ) → 65535 < n → read-said list (replicate n 32) [] ≡ refusal 1 65535
+unfolding read-said calls.read form-of _>>=_ _>>_ require answer-of
+long-text n h = rw (names-pass, length-replicate {A = ℕ} n 32, lt-leb n 65535 h)
+
+long-form : (n : ℕ) → 65535 < n → short-enough (replicate n 120) ≡ refuses 24 n
+unfolding short-enough
+long-form n h = rw (length-replicate {A = ℕ} n 120, lt-leb n 65535 h)
+
 -- ---- the theorem
 
 computed : All Holds table
@@ -178,16 +195,13 @@ unfolding Holds table list inside sheet-with bytes both flatMap has every only f
     names-said read-said tree-said write-said sheet-said from-file from-file-said verdict-of judge-said first-states states-after
     judge-states swap-said swap-out in-second joined join-said join-out calls.read calls.write calls.judge calls.swap calls.join
 computed =
-    refl and refl and refl and refl and refl and refl and refl and refl and refl and refl and refl and refl and refl and refl and refl and
-    refl
-    and refl and refl and refl and refl and refl and refl and refl and refl and refl and refl and refl and refl and refl and refl and refl
-    and
-    refl and refl and refl and refl and refl and refl and refl and refl and refl and refl and refl and refl and refl and refl and refl and
-    refl
-    and refl and refl and refl and refl and refl and refl and refl and refl and refl and refl and refl and refl and refl and refl and refl
-    and
-    refl and refl and refl and refl and refl and refl and refl and refl and refl and refl and refl and refl and refl and refl and
-    that-is-all
+    refl and refl and refl and refl and refl and refl and refl and refl and long-text 65536 (omega arith)
+    and refl and refl and refl and refl and refl and refl and refl and refl and refl and refl and refl and refl and refl and refl
+    and refl and refl and refl and refl and refl and refl and refl and refl and refl and refl and refl and refl and refl and refl
+    and refl and refl and refl and refl and refl and refl and refl and refl and refl and refl and refl and refl and refl and refl
+    and refl and refl and refl and refl and refl and refl and refl and refl and refl and refl and refl and refl and refl
+    and long-form 65536 (omega arith)
+    and refl and refl and refl and refl and refl and refl and refl and refl and refl and refl and refl and that-is-all
 
 pub refusals-hold : (x : Example) → x ∈ table → Holds x
 refusals-hold = all-∈ Holds computed
