@@ -11,21 +11,20 @@ use lib.Dec.{eqb}
 use borrow.Author.Tests.{not-true, not-false}
 use mir.Syntax.{w64}
 use mir.Val.{Fits}
-use Rattle.model.specs.Sheet.{Order, Step, Rule, one, two, three, rule-words, mask, bit}
+use Rattle.model.specs.Sheet.{Order, Step, Rule, one, two, three, count-words, rule-words, mask, bit}
 use Rattle.model.specs.Words.{fits-order, fits-count, reads}
 use Rattle.model.specs.Words as Words
 use Rattle.model.specs.Run.{at-content, looks-of, content-targets, tries, unless-one}
 use Rattle.model.specs.Spans.{RuleAt, Content, content, ordered, counted, order-part, count-part}
 use Rattle.model.specs.Index.{key, rules-in, nth}
 use Rattle.model.proofs.PartLaws.{words-part}
-use Rattle.model.proofs.RuleWords.{has-order, no-order, order-end, order-absent, has-count, no-count, after-count, target-there}
-use Rattle.model.proofs.RuleWords.{content-words}
+use Rattle.model.proofs.RuleWords.{has-order, no-order, order-end, order-absent, count-stands, after-count, target-there, content-words}
+use Rattle.model.proofs.Tests.{Told, yea, nay, told, same, eqb-no}
 use Rattle.model.proofs.PassedLaws.{few-words}
 use Rattle.model.proofs.IndexLaws.{rule-ends, chain-first, chain-next}
-use Rattle.parts.specs.Lengths.{order-length}
 use Rattle.judge_order.specs.Order.{StateWords, states-of, OrderPart, OrderSays}
-use Rattle.judge_count.specs.Count.{Occurs, CountPart}
-use Rattle.judge_rules.specs.Rules.{Ruled, RulesOf}
+use Rattle.judge_count.specs.Count.{Occurs, CountPart, CountSays}
+use Rattle.judge_rules.specs.Rules.{Ruled, RulesOf, with-count}
 use Rattle.judge_rules.specs.declared.numbers.Rules.{Rules}
 use Rattle.judge_rules.specs.declared.targets.Found.{Found}
 use Rattle.judge_rules.proofs.TargetLaws.{kinds, count-some, OnChain, chain-begun, chain-added, chain-ended, chain-less, rule-begins}
@@ -39,6 +38,14 @@ part s from end = take (end - from) (drop from s)
 pub length-states : (words : List ℕ) → length words ≡ length (states-of words)
 unfolding states-of
 length-states words = sym (length-map words (λ x. x - 1))
+
+-- a count part without a word is none
+pub no-part : {s counts : List ℕ} {from end : ℕ} → from ≡ end → CountHolds s from end counts true
+no-part z = record { by-part = λ words. absurd (words z); by-none = λ e. refl }
+
+pub part-fits : {s counts : List ℕ} {from end : ℕ} {holds : Bool} → from ≢ end → CountSays (part s from end) counts holds
+    → CountHolds s from end counts holds
+part-fits words says = record { by-part = λ w. says; by-none = λ e. absurd (words e) }
 
 -- ---- where the parts are
 
@@ -56,89 +63,94 @@ module _ {s : List ℕ} {at target : ℕ} (c : ContentAt s at target) where
   -- ---- the order part, where the map has one
 
   module _ {r : Bool} (er : r ≡ ordered (getD s at 0)) where
-    module _ (t : not r ≡ false) {n : ℕ} (en : n ≡ order-length s (at + 1)) where
-      order-long : at + 1 + n ≡ middle
-      unfolding order-length
-      order-long =
-          let e : at + 1 + 3 ≡ at + 4 = omega arith in
-          omega (arith, rw e at en, order-end (c .here) er (not-false r t) .0)
-
-      pub middle-before : at + 1 + n ≤ target
-      middle-before = omega (arith, order-long, counts-end)
-
-      pub middle-room : at + 1 + n < length s
-      middle-room = omega (arith, middle-before, c .room)
-
-      pub middle-within : at + 1 + n ≤ length s
-      middle-within = omega (arith, middle-room)
-
-      pub middle-fits : Fits w64 (at + 1 + n)
-      middle-fits = record { fits = omega (arith, middle-room, c .few-words) }
-
-      order-there : (p : OrderPart (part s (at + 1) (at + 1 + n))) × (c .fields .order ≡ some (p .order))
-      order-there =
-          let (x, e, h) = has-order (c .here) er (not-false r t) in
-          let long : length (order-part (c .fields .order)) ≡ length
-          (order-part (some x)) = ap (λ (o : Option Order). length (order-part o)) e in
-          let end : at + 1 + n ≡ h .end = omega (arith, order-long, h .there .ends) in (
-            record {
-              states = c .states;
-              order = x;
-              few-states = c .few-states;
-              in-range = h .ranges;
-              coded = rw end
-                  (words-part (h .there));
-            },
-            e,
-          )
-
-      pub order-lent : OrderPart (part s (at + 1) (at + 1 + n))
-      order-lent = order-there .0
-
     order-none : not r ≡ true → (c .fields .order ≡ none) × (at + 1 ≡ middle)
     order-none t = (no-order (c .here) er (not-true r t), order-absent (c .here) er (not-true r t))
 
-  -- ---- the count part, from word m up to the target
+    module _ (t : not r ≡ false) where
+      order-long : (at + 1 + 4 + getD s (at + 1 + 3) 0 ≡ middle) × (at + 1 + 4 + getD s (at + 1 + 3) 0 ≤ length s)
+      order-long =
+          let e : at + 4 ≡ at + 1 + 3 = omega arith in
+          let (ends, room) = rw e at (order-end (c .here) er (not-false r t)) in
+          (omega arith, omega arith)
 
-  module _ {b : Bool} (eb : b ≡ counted (getD s at 0)) {m : ℕ} (em : m ≡ middle) where
-    count-there : b ≡ true → (p : CountPart (part s m target)) × (c .fields .count ≡ some (p .steps))
-    count-there t =
-        let (ss, e, h) = has-count (c .here) em eb t in
-        let long : length (count-part (c .states) (c .fields .count)) ≡ length (count-part (c .states) (some ss))
-        = ap (λ (o : Option (List Step)). length (count-part (c .states) o)) e in
-        let end : target ≡ h .end = omega (arith, counts-end, h .there .ends) in (
-          record {
-            states = c .states;
-            steps = ss;
-            few-states = c .few-states;
-            in-range = h .ranges;
-            coded = rw end
-                (words-part (h .there));
-          },
-          e,
-        )
+      pub order-within : at + 1 + 4 + getD s (at + 1 + 3) 0 ≤ length s
+      order-within = order-long .1
 
-    count-lent : {counts w : List ℕ} → CountedAt s at counts w → CountIf (part s m target) b counts
-    count-lent {w = w} o = record { lent = λ t. (count-there t .0, (w, o .known (sym eb ∙ t))) }
+      module _ {m : ℕ} (em : m ≡ at + 1 + 4 + getD s (at + 1 + 3) 0) where
+        middle-is : m ≡ middle
+        middle-is = em ∙ order-long .0
 
-    count-told : {counts w : List ℕ} {holds : Bool} → CountedAt s at counts w → CountHolds
-        (part s m target) b counts holds → holds ≡ fits-count (c .fields .count) w
-    unfolding fits-count
-    count-told {w = w} {holds} o h = go b refl
+        pub middle-within : m ≤ length s
+        middle-within = omega (arith, order-within)
+
+        order-there : (p : OrderPart (part s (at + 1) m)) × (c .fields .order ≡ some (p .order))
+        order-there =
+            let (x, e, h) = has-order (c .here) er (not-false r t) in
+            let long = ap (λ (o : Option Order). length (order-part o)) e in
+            let end : m ≡ h .end = omega (arith, middle-is, h .there .ends, long) in (
+              record {
+                states = c .states;
+                order = x;
+                few-states = c .few-states;
+                in-range = h .ranges;
+                coded = rw end (words-part (h .there));
+              },
+              e,
+            )
+
+        pub order-lent : OrderPart (part s (at + 1) m)
+        order-lent = order-there .0
+
+  -- ---- the count part, from word m up to the target: there is one where there are words
+
+  module _ {m : ℕ} (em : m ≡ middle) where
+    count-there : m ≢ target → (p : CountPart (part s m target)) × (c .fields .count ≡ some (p .steps))
+    count-there words = go (c .fields .count) refl
       where
-        go : (x : Bool) → b ≡ x → holds ≡ fits-count (c .fields .count) w
-        go true e = let (p, is) = count-there e in h .by-part e .fitting p w
-            (o .known (sym eb ∙ e)) ∙ ap (λ (o : Option (List Step)). fits-count o w) (sym is)
-        go false e = h .by-none e ∙ ap (λ (o : Option (List Step)). fits-count o w) (sym (no-count (c .here) eb e))
+        go : (φ : Option (List Step)) → c .fields .count ≡ φ → (p : CountPart (part s m target)) × (c .fields .count ≡ some (p .steps))
+        go none e = absurd (words (omega (arith, counts-end, ap (λ (o : Option (List Step)). length (count-part (c .states) o)) e)))
+        go (some steps) e =
+            let h = count-stands (c .here) em e in
+            let long = ap (λ (o : Option (List Step)). length (count-part (c .states) o)) e in
+            let end : target ≡ h .end = omega (arith, counts-end, h .there .ends, long) in (
+              record {
+                states = c .states;
+                steps = steps;
+                few-states = c .few-states;
+                in-range = h .ranges;
+                coded = rw end (words-part (h .there));
+              },
+              e,
+            )
 
-  -- after the map, or after the order part
-  module _ {counts w : List ℕ} (o : CountedAt s at counts w) {r b : Bool} (er : r ≡ ordered (getD s at 0))
-      (eb : b ≡ counted (getD s at 0)) where
-    pub first-lent : not r ≡ true → CountIf (part s (at + 1) target) b counts
-    first-lent t = count-lent eb (order-none er t .1) o
+    count-none : m ≡ target → c .fields .count ≡ none
+    unfolding count-words
+    count-none no-word = go (c .fields .count) refl
+      where
+        go : (φ : Option (List Step)) → c .fields .count ≡ φ → c .fields .count ≡ none
+        go none e = e
+        go (some steps) e = absurd (omega (arith, counts-end, ap (λ (o : Option (List Step)). length (count-part (c .states) o)) e))
 
-    pub second-lent : not r ≡ false → {n : ℕ} → n ≡ order-length s (at + 1) → CountIf (part s (at + 1 + n) target) b counts
-    second-lent t en = count-lent eb (order-long er t en) o
+    count-known : {steps : List Step} → c .fields .count ≡ some steps → counted (getD s at 0) ≡ true
+    unfolding with-count
+    count-known e = kinds (content (c .fields)) (c .here) .count
+        ∙ ap (λ (o : Option (List Step)). with-count (three (c .fields .order) o (c .fields .target))) e
+
+    module _ {counts w : List ℕ} (o : CountedAt s at counts w) where
+      count-lent : CountIf s m target counts
+      count-lent = record {
+        before = omega (arith, counts-end);
+        room = c .room;
+        lent = λ words. let (p, e) = count-there words in (p, (w, o .known (count-known e)));
+      }
+
+      count-told : {holds : Bool} → CountHolds s m target counts holds → holds ≡ fits-count (c .fields .count) w
+      unfolding fits-count
+      count-told {holds} h = go (told (eqb m target))
+        where
+          go : Told (eqb m target) → holds ≡ fits-count (c .fields .count) w
+          go (yea y) = rw (count-none (same m target y)) (h .by-none (same m target y))
+          go (nay n) = let (p, e) = count-there (eqb-no n) in rw e (h .by-part (eqb-no n) .fitting p w (o .known (count-known e)))
 
 -- ---- what a rule gives
 
@@ -157,34 +169,39 @@ module _ {s : List ℕ} {at target : ℕ} where
   }
 
   module _ {counts words : List ℕ} (here : ContentAt s at target) (o : CountedAt s at counts (states-of words))
-      (ok : StateWords words) {r b : Bool} (er : r ≡ ordered (getD s at 0))
-      (eb : b ≡ counted (getD s at 0)) where
+      (ok : StateWords words) {r : Bool} (er : r ≡ ordered (getD s at 0)) where
     -- without an order part, all children are read
-    pub unordered-tries : not r ≡ true → {holds : Bool} → CountHolds (part s (at + 1) target) b counts holds → Tries s at target
+    pub first-lent : not r ≡ true → CountIf s (at + 1) target counts
+    first-lent t = count-lent here (order-none here er t .1) o
+
+    pub unordered-tries : not r ≡ true → {holds : Bool} → CountHolds s (at + 1) target counts holds → Tries s at target
         (states-of words) holds (length words)
     unfolding fits-order reads
     unordered-tries t h = tried here (omega (arith, ok .few)) (λ c.
         let (e, m) = order-none c er t in
-        let says = count-told c eb m o h in
+        let says = count-told c m o h in
         rw e (says, length-states words))
 
-    module _ (t : not r ≡ false) {n : ℕ} (en : n ≡ order-length s (at + 1)) {fits : Bool} {m reads : ℕ}
-        (says : OrderSays (part s (at + 1) (at + 1 + n)) (states-of words) fits m) (small : m < 2 ^ 32) (same : reads ≡ m) where
-      reading : (c : ContentAt s at target) → reads ≡ Words.reads (c .fields .order) (states-of words)
-      reading c = let (p, e) = order-there c er t en in same ∙ says .reading p ∙ ap (λ (x : Option Order). Words.reads x (states-of words))
-          (sym e)
+    module _ (t : not r ≡ false) {m : ℕ} (em : m ≡ at + 1 + 4 + getD s (at + 1 + 3) 0) where
+      pub second-lent : CountIf s m target counts
+      second-lent = count-lent here (middle-is here er t em) o
 
-      fitting : (c : ContentAt s at target) → fits ≡ fits-order (c .fields .order) (states-of words)
-      fitting c = let (p, e) = order-there c er t en in says .fitting p ∙ ap (λ (x : Option Order). fits-order x (states-of words)) (sym e)
+      module _ {fits : Bool} {n reads : ℕ} (says : OrderSays (part s (at + 1) m) (states-of words) fits n) (small : n < 2 ^ 32)
+          (same : reads ≡ n) where
+        reading : (c : ContentAt s at target) → reads ≡ Words.reads (c .fields .order) (states-of words)
+        reading c = let (p, e) = order-there c er t em in rw e (same ∙ says .reading p)
 
-      pub unfit-tries : not fits ≡ true → Tries s at target (states-of words) false reads
-      unfit-tries e = tried here (omega arith) (λ c. (rw (sym (fitting c) ∙ not-true fits e), reading c))
+        fitting : (c : ContentAt s at target) → fits ≡ fits-order (c .fields .order) (states-of words)
+        fitting c = let (p, e) = order-there c er t em in rw e (says .fitting p)
 
-      pub ordered-tries : not fits ≡ false → {holds : Bool} → CountHolds (part s (at + 1 + n) target) b counts holds → Tries s at target
-          (states-of words) holds reads
-      ordered-tries e h = tried here (omega arith) (λ c.
-          let holding = count-told c eb (order-long c er t en) o h in
-          (rw (sym (fitting c) ∙ not-false fits e) holding, reading c))
+        pub unfit-tries : not fits ≡ true → Tries s at target (states-of words) false reads
+        unfit-tries e = tried here (omega arith) (λ c. (rw (sym (fitting c) ∙ not-true fits e), reading c))
+
+        pub ordered-tries : not fits ≡ false → {holds : Bool} → CountHolds s m target counts holds
+            → Tries s at target (states-of words) holds reads
+        ordered-tries e h = tried here (omega arith) (λ c.
+            let holding = count-told c (middle-is c er t em) o h in
+            (rw (sym (fitting c) ∙ not-false fits e) holding, reading c))
 
 -- a look, and one for each child that is read
 pub look-fits : {s : List ℕ} {at target : ℕ} {w : List ℕ} {fits : Bool} {n : ℕ} → Tries s at target w fits n → Fits w64 (1 + n)
@@ -329,9 +346,11 @@ module _ {s index : List ℕ} {rules : ℕ} (h : Ruled s index rules) {w : List 
       record { reached = chain-ended h (g .chain) l; number = omega (arith, rw none at (g .taking)); few = g .few .1 }
 
 -- the occurrences are counted, or no rule has a count part
-pub counted-if : {s index : List ℕ} {r : Rules} {counts w : List ℕ} → RulesOf s index r → (0 < r .counted → Occurs counts w) → Counted
-    (rules-in s) counts w
-counted-if {r = r} k o = record { known = λ l. o (omega (arith, k .counts)) }
+pub counted-all : {R : List Rule} {counts w : List ℕ} → Occurs counts w → Counted R counts w
+counted-all o = record { known = λ l. o }
+
+pub counted-none : {s index : List ℕ} {r : Rules} {counts w : List ℕ} → RulesOf s index r → r .counted ≡ 0 → Counted (rules-in s) counts w
+counted-none k z = record { known = λ l. absurd (omega (arith, k .counts)) }
 
 -- ---- no child, and several
 

@@ -1,9 +1,10 @@
 -- Content: a rule of kind three and what it gives, and what all of them give together.
 use mathlib.Core.Path.{_≡_}
-use mathlib.Core.Bool.{Bool, true, false}
+use mathlib.Core.Logic.{_≢_}
+use mathlib.Core.Bool.{Bool, true}
 use mathlib.Core.List.{List, flatMap}
-use Prim.Native.Nat.{ℕ, suc, _+_, _^_, _≤_, _<_}
-use lib.ListN.{length, getD}
+use Prim.Native.Nat.{ℕ, suc, _+_, _-_, _^_, _≤_, _<_}
+use lib.ListN.{length, getD, take, drop}
 use Rattle.model.specs.Lists.{only}
 use Rattle.model.specs.Sheet.{Rule, rule-words}
 use Rattle.model.specs.Run.{at-content, content-targets, looks-of, tries, unless-one}
@@ -30,13 +31,15 @@ pub record ContentAt (s : List ℕ) (at target : ℕ) : Type 0 where
 pub record CountedAt (s : List ℕ) (at : ℕ) (counts w : List ℕ) : Type 0 where
   pub known : counted (getD s at 0) ≡ true → Occurs counts w
 
--- a count part and counts, if there is a count part; and whether it fits
-pub record CountIf (part : List ℕ) (there : Bool) (counts : List ℕ) : Type 0 where
-  pub lent : there ≡ true → CountPart part × Counts counts
+-- a count part from word `from` up to word `end`, and counts for it, if there is a word; and whether it fits
+pub record CountIf (s : List ℕ) (from end : ℕ) (counts : List ℕ) : Type 0 where
+  pub before : from ≤ end
+  pub room : end < length s
+  pub lent : from ≢ end → CountPart (take (end - from) (drop from s)) × Counts counts
 
-pub record CountHolds (part : List ℕ) (there : Bool) (counts : List ℕ) (holds : Bool) : Type 0 where
-  pub by-part : there ≡ true → CountSays part counts holds
-  pub by-none : there ≡ false → holds ≡ true
+pub record CountHolds (s : List ℕ) (from end : ℕ) (counts : List ℕ) (holds : Bool) : Type 0 where
+  pub by-part : from ≢ end → CountSays (take (end - from) (drop from s)) counts holds
+  pub by-none : from ≡ end → holds ≡ true
 
 -- The rule tried on the child states w: it gives its target if it fits, and takes a look and one more for each child that it reads.
 pub record Tries (s : List ℕ) (at target : ℕ) (w : List ℕ) (fits : Bool) (reads : ℕ) : Type 0 where

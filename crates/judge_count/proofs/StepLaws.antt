@@ -202,6 +202,8 @@ pub record Rest (part : List ℕ) (h : CountPart part) (w : List ℕ) (set at i 
   pub whole : truths w earlier rest ≡ truths w [] (h .steps)
 
 pub record StepsLeft (part counts : List ℕ) (steps set at i : ℕ) : Type 0 where
+  pub coded : CountPart part
+  pub occur : Counts counts
   pub counted : steps ≡ getD part 0 0
   pub within : i ≤ steps
   pub left : (h : CountPart part) (w : List ℕ) → Occurs counts w → (rest : List Step) × Rest part h w set at i rest
@@ -218,12 +220,9 @@ module _ {part : List ℕ} (h : CountPart part) where
   unfolding count-words
   steps-there = omega (arith, ap length (h .coded))
 
-  pub steps-are : getD part 0 0 ≡ length (h .steps)
+  steps-are : getD part 0 0 ≡ length (h .steps)
   unfolding count-words
   steps-are = ap (λ (l : List ℕ). getD l 0 0) (h .coded)
-
-  pub steps-few : (1 ≤ getD part 0 0) × (getD part 0 0 ≤ 32)
-  steps-few = rw steps-are (h .in-range .some-steps, h .in-range .few-steps)
 
   first-step : (w : List ℕ) → Rest part h w 0 1 0 (h .steps)
   unfolding count-words
@@ -274,22 +273,30 @@ module _ {part : List ℕ} (h : CountPart part) where
 
 -- ---- what the loop keeps
 
-pub no-step : {part counts : List ℕ} {steps : ℕ} → steps ≡ getD part 0 0 → StepsLeft part counts steps 0 1 0
-no-step e = record { counted = e; within = omega arith; left = λ h w o. (h .steps, first-step h w) }
+pub no-step : {part counts : List ℕ} {steps : ℕ} → CountPart part → Counts counts → steps ≡ getD part 0 0 → StepsLeft part counts steps 0 1 0
+no-step h k e = record { coded = h; occur = k; counted = e; within = omega arith; left = λ h w o. (h .steps, first-step h w) }
 
 module _ {part counts : List ℕ} {steps set at i : ℕ} (left : StepsLeft part counts steps set at i) where
-  pub step-here : i < steps → CountPart part → Counts counts → StepFrom part at
-  step-here l h (w, o) = let (rest, t) = left .left h w o in turn h rest t (omega (arith, left .counted, steps-are h)) .step
+  pub few-steps : (1 ≤ steps) × (steps ≤ 32)
+  few-steps = rw (left .counted, steps-are (left .coded)) (left .coded .in-range .some-steps, left .coded .in-range .few-steps)
 
-  pub one-step : {next r : ℕ} (b : Bool) → i < steps
-      → StepSays part at counts set next b
+  now-step : i < steps → (h : CountPart part) {w : List ℕ} (o : Occurs counts w)
+      → Turn part h w set at i (left .left h w o .1 .earlier)
+  now-step l h {w} o = let (rest, t) = left .left h w o in turn h rest t (omega (arith, left .counted, steps-are h))
+
+  pub step-here : i < steps → StepFrom part at
+  step-here l = now-step l (left .coded) (left .occur .1) .step
+
+  pub one-step : {next r : ℕ} (b : Bool) → i < steps → StepSays part at counts set next b
       → r ≡ mask 64 (λ j. bit set j || (b && eqb j i)) → StepsLeft part counts steps r next (i + 1)
   one-step {r = r} b l judged er = record {
+    coded = left .coded;
+    occur = left .occur;
     counted = left .counted;
     within = omega arith;
     left = λ h w o.
-        let (rest, t) = left .left h w o in
-        let n = turn h rest t (omega (arith, left .counted, steps-are h)) in
+        let t = left .left h w o .1 in
+        let n = now-step l h o in
         let (en, eb) = judged (t .earlier) (t .known) (n .step) w o in
         (n .others, rw en (n .more r b er eb));
   }

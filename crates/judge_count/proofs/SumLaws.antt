@@ -9,7 +9,7 @@ use native.Mathlib.Omega.{arith}
 use native.Mathlib.Nat.{le-refl, lt-of-le-of-lt, mul-le-mul-right}
 use lib.Dec.{eqb, ltb}
 use lib.ListN.{length, getD, drop, set, replicate, length-set, length-map, drop-of-length-le, length-drop}
-use lib.Seq.{drop-cons, getD-set-same, getD-set-other}
+use lib.Seq.{drop-cons, drop-length, getD-set-same, getD-set-other}
 use lib.IntN.{ℤ, pos, negsuc, negℤ, natAbs, subℕ, _+ℤ_, _*ℤ_, +ℤ-assoc, +ℤ-idl, +ℤ-idr}
 use lib.Signed.{mag}
 use borrow.Author.Tests.{lt-ltb, le-ltb, ltb-true}
@@ -30,11 +30,11 @@ use Rattle.judge_count.specs.Count.{Occurs, Counts, SumFrom, Summed}
 
 -- ---- counting occurrences
 
--- the counts, and the occurrences from word i on, make all occurrences
-pub record CountsLeft (words counts : List ℕ) (i : ℕ) : Type 0 where
+-- the counts are the occurrences from word i on
+pub record CountsFrom (words counts : List ℕ) (i : ℕ) : Type 0 where
   pub within : i ≤ length words
   pub long : length counts ≡ 64
-  pub makes : (q : ℕ) → getD counts q 0 + occurrences q (states-of (drop i words)) ≡ occurrences q (states-of words)
+  pub each : (q : ℕ) → getD counts q 0 ≡ occurrences q (states-of (drop i words))
 
 occurrences-≤ : (q : ℕ) (w : List ℕ) → occurrences q w ≤ length w
 unfolding occurrences
@@ -49,55 +49,52 @@ length-states : (words : List ℕ) → length (states-of words) ≡ length words
 unfolding states-of
 length-states words = length-map words (λ x. x - 1)
 
-pub no-count : {words : List ℕ} → CountsLeft words (replicate 64 0) 0
-no-count {words} = record {
-  within = omega arith;
-  long = refl;
-  makes = λ q. ap (λ (n : ℕ). n + occurrences q (states-of words))
-      (none q 64) ∙ omega arith;
-}
+pub no-count : (words : List ℕ) → CountsFrom words (replicate 64 0) (length words)
+unfolding states-of occurrences
+no-count words = record { within = omega arith; long = refl; each = λ q. rw (drop-length words) (none q 64) }
   where
     none : (q n : ℕ) → getD {A = ℕ} (replicate n 0) q 0 ≡ 0
     none q zero = refl
     none zero (suc n) = refl
     none (suc q) (suc n) = none q n
 
-module _ {words counts : List ℕ} {i : ℕ} (left : CountsLeft words counts i) where
-  -- the next state is counted
-  module _ (h : i < length words) where
+module _ {words counts : List ℕ} {i : ℕ} (later : CountsFrom words counts i) where
+  -- the state before those is counted
+  module _ (more : 0 < i) where
     abbrev here : ℕ
-    here = getD words i 0 - 1
+    here = getD words (i - 1) 0 - 1
 
-    -- what is left, with this state in front
-    ahead : (x : ℕ) → getD counts x 0 + (cond (eqb x here) 1 0 + occurrences x (states-of (drop (i + 1) words))) ≡ occurrences x
-        (states-of words)
+    with-here : (q : ℕ) → occurrences q (states-of (drop (i - 1) words)) ≡ cond (eqb q here) 1 0 + getD counts q 0
     unfolding states-of occurrences
-    ahead x = rw add-one (rw (drop-cons words i 0 h) at (left .makes x))
+    with-here q =
+        let next : suc (i - 1) ≡ i = omega arith in
+        let split = drop-cons words (i - 1) 0 (omega (arith, later .within)) ∙ ap (λ (n : ℕ). getD words (i - 1) 0 ∷ drop n words) next in
+        rw (split, later .each q)
 
-    pub count-small : length words ≤ 4096 → getD counts here 0 < 4096
-    count-small few = omega (arith, rw (eqb-yes {m = here} refl) at (ahead here), occurrences-≤ here (states-of words), length-states words)
+    pub count-small : length words ≤ 4096 → getD counts here 0 ≤ 4096
+    count-small few =
+        rw (later .each here)
+        (omega (arith, occurrences-≤ here (states-of (drop i words)), length-states (drop i words), length-drop i words))
 
-    pub one-count : here < 64 → CountsLeft words (set counts here (getD counts here 0 + 1)) (i + 1)
-    one-count l = record { within = omega arith; long = length-set counts here _ ∙ left .long; makes = λ x. go x (told (eqb x here)) }
+    pub one-count : here < 64 → CountsFrom words (set counts here (getD counts here 0 + 1)) (i - 1)
+    one-count l = record {
+      within = omega (arith, later .within);
+      long = length-set counts here _ ∙ later .long;
+      each = λ q. go q (told (eqb q here));
+    }
       where
-        go : (x : ℕ) → Told (eqb x here) → getD (set counts here (getD counts here 0 + 1)) x 0 + occurrences x
-            (states-of (drop (i + 1) words)) ≡ occurrences x (states-of words)
-        go x (yea y) =
-            let e : x ≡ here = same x here y in
-            rw e (omega (
-              arith,
-              rw (eqb-yes {m = here} refl) at (ahead here),
-              getD-set-same counts here (getD counts here 0 + 1) 0 (omega (arith, left .long)),
-            ))
-        go x (nay n) = omega (arith, rw n at (ahead x), getD-set-other counts here x (getD counts here 0 + 1) 0 (eqb-no n))
+        go : (q : ℕ) → Told (eqb q here)
+            → getD (set counts here (getD counts here 0 + 1)) q 0 ≡ occurrences q (states-of (drop (i - 1) words))
+        go q (yea y) =
+            let e : q ≡ here = same q here y in
+            let put = getD-set-same counts here (getD counts here 0 + 1) 0 (omega (arith, later .long)) in
+            rw e (omega (arith, put, rw (eqb-yes {m = here} refl) at (with-here here)))
+        go q (nay n) = omega (arith, rw n at (with-here q), getD-set-other counts here q (getD counts here 0 + 1) 0 (eqb-no n))
 
-  pub all-counted : StateWords words → length words ≤ i → Occurs counts (states-of words)
-  unfolding states-of occurrences
-  all-counted ok h = record {
-    each = λ q. omega (arith, rw (drop-of-length-le words h) at (left .makes q));
-    few =
-        omega (arith, length-states words, ok .few);
-  }
+  pub all-counted : StateWords words → i ≤ 0 → Occurs counts (states-of words)
+  all-counted ok h =
+      let z : i ≡ 0 = omega arith in
+      record { long = later .long; each = rw z at (later .each); few = omega (arith, length-states words, ok .few) }
 
 -- ---- different states
 
@@ -221,6 +218,8 @@ pub record Terms (part : List ℕ) (end : ℕ) (all : List Coefficient) (w : Lis
 
 pub record SumLeft (part counts : List ℕ) (from set at : ℕ) (sum : ℤ) : Type 0 where
   pub fits : set < 2 ^ 64
+  pub whole : SumFrom part from
+  pub counted : Counts counts
   pub terms : (h : SumFrom part from) (w : List ℕ) → Occurs counts w
       → (rest : List Coefficient) × Terms part (h .next) (h .coefficients) w set at sum rest
 
@@ -252,9 +251,14 @@ module _ {part : List ℕ} {from : ℕ} (h : SumFrom part from) where
       bounded = omega (arith, among-≤ (marks (h .coefficients)) w (h .in-range .marked .ascends));
     }
 
-pub no-term : {part counts : List ℕ} {from r : ℕ} → SumFrom part from → r ≡ getD part from 0 + getD part
-    (from + 1) 0 * W → SumLeft part counts from r (from + 2) (pos 0)
-no-term h e = record { fits = marks-stand h e .fits; terms = λ k w o. (k .coefficients, first-terms k e (o .few)) }
+pub no-term : {part counts : List ℕ} {from r : ℕ} → SumFrom part from → Counts counts
+    → r ≡ getD part from 0 + getD part (from + 1) 0 * W → SumLeft part counts from r (from + 2) (pos 0)
+no-term h k e = record {
+  fits = marks-stand h e .fits;
+  whole = h;
+  counted = k;
+  terms = λ h w o. (h .coefficients, first-terms h e (o .few));
+}
 
 -- ---- the next term
 
@@ -316,29 +320,38 @@ module _ {part counts : List ℕ} {from set at : ℕ} {sum : ℤ} (left : SumLef
     now-term : (h : SumFrom part from) {w : List ℕ} → Occurs counts w → Next part (h .next) (h .coefficients) w set at sum
     now-term h {w} o = let (rest, t) = left .terms h w o in next-term (left .fits) n rest t
 
-    -- a coefficient stands here, of a state below 64
-    pub term-place : SumFrom part from → Counts counts → (at < length part) × (getD (members 64 set) 0 64 < 64)
-    term-place h (w, o) = let t = now-term h o in (t .place, omega (arith, t .state, t .below))
+    -- a coefficient stands here
+    pub term-there : at < length part
+    term-there = let (w, o) = left .counted in now-term (left .whole) o .place
 
-    module _ {q : ℕ} {times : ℤ} (eq : q ≡ getD (members 64 set) 0 64) (et : times ≡ signed (getD part at 0)) where
-      -- there is room for its term
-      pub term-room : SumFrom part from → Counts counts → (natAbs sum + natAbs times * getD counts q 0 < 2 ^ 31) ×
-          (getD counts q 0 < 2 ^ 31)
-      term-room h (w, o) =
-          let t = now-term h o in
-          let e : q ≡ t .first .state = eq ∙ t .state in
-          rw (e, et, t .times, o .each (t .first .state)) (omega (arith, t .room), omega (arith, t .many))
+    module _ {q : ℕ} (eq : q ≡ getD (members 64 set) 0 64) where
+      -- of a state that is counted
+      pub term-counted : q < length counts
+      term-counted =
+          let (w, o) = left .counted in
+          let t = now-term (left .whole) o in
+          omega (arith, t .state, t .below, o .long)
 
-      pub one-term : {r : ℕ} {sum′ : ℤ} → sum′ ≡ sum +ℤ (times *ℤ pos (getD counts q 0)) → members 64 r ≡ drop 1
-          (members 64 set) → r < 2 ^ 64
-          → SumLeft part counts from r (at + 1) sum′
-      one-term {r} es em f = record {
-        fits = f;
-        terms = λ h w o.
-            let t = now-term h o in
+      module _ {times : ℤ} (et : times ≡ signed (getD part at 0)) where
+        -- there is room for its term
+        pub term-room : (natAbs sum + natAbs times * getD counts q 0 < 2 ^ 31) × (getD counts q 0 < 2 ^ 31)
+        term-room =
+            let (w, o) = left .counted in
+            let t = now-term (left .whole) o in
             let e : q ≡ t .first .state = eq ∙ t .state in
-            (t .others, rw (es, e, et, t .times, o .each (t .first .state)) (t .more r em));
-      }
+            rw (e, et, t .times, o .each (t .first .state)) (omega (arith, t .room), omega (arith, t .many))
+
+        pub one-term : {r : ℕ} {sum′ : ℤ} → sum′ ≡ sum +ℤ (times *ℤ pos (getD counts q 0)) → members 64 r ≡ drop 1 (members 64 set)
+            → r < 2 ^ 64 → SumLeft part counts from r (at + 1) sum′
+        one-term {r} es em f = record {
+          fits = f;
+          whole = left .whole;
+          counted = left .counted;
+          terms = λ h w o.
+              let t = now-term h o in
+              let e : q ≡ t .first .state = eq ∙ t .state in
+              (t .others, rw (es, e, et, t .times, o .each (t .first .state)) (t .more r em));
+        }
 
   pub all-terms : set ≡ 0 → Summed part from counts at sum
   all-terms z h w o = let (rest, t) = left .terms h w o in no-more (left .fits) z rest t

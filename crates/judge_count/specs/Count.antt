@@ -16,6 +16,7 @@ use Rattle.model.specs.Spans.{WordsAt}
 
 -- how often each state occurs among the states w
 pub record Occurs (counts w : List ℕ) : Type 0 where
+  pub long : length counts ≡ 64
   pub each : (q : ℕ) → getD counts q 0 ≡ occurrences q w
   pub few : length w ≤ 4096
 

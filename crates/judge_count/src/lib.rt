@@ -31,11 +31,11 @@ pub fn occurrences(words: &[u32], counts: &mut [u32; STATES])
     requires { ⌜ StateWords (now words) × (now counts ≡ replicate 64 0) ⌝ }
     ensures { λ r. ⌜ Occurs (now (counts .exit)) (states-of (now (words .entry))) ⌝ }
 {
-    let mut i = 0;
-    while i < words.len() {
+    let mut i = words.len();
+    while 0 < i {
+        i -= 1;
         let q = (words[i] - 1) as usize;
         counts[q] = counts[q] + 1;
-        i += 1;
     }
 }
 
@@ -48,7 +48,7 @@ fn plus_times(total: i32, times: i32, count: u32) -> i32
 }
 
 // The sum whose words begin at `from`: the coefficient of each marked state times its occurrences.
-fn sum_at(part: &[u32], from: usize, counts: &[u32; STATES]) -> Sum
+fn sum_at(part: &[u32], from: usize, counts: &[u32]) -> Sum
     requires part { ⌜ SumFrom (now part) from ⌝ }
     requires counts { ⌜ Counts (now counts) ⌝ }
     ensures { λ r. ⌜ Summed (now (part .entry)) from (now (counts .entry)) (r .next) (r .total) ⌝ }
@@ -101,7 +101,7 @@ fn truth_at(part: &[u32], at: usize, truths: u64) -> bool
 }
 
 // The step whose words begin at `at`, by its kind; bit i of `truths` says whether step i holds.
-fn step_at(part: &[u32], at: usize, counts: &[u32; STATES], truths: u64) -> Step
+fn step_at(part: &[u32], at: usize, counts: &[u32], truths: u64) -> Step
     requires part { ⌜ StepFrom (now part) at ⌝ }
     requires counts { ⌜ Counts (now counts) ⌝ }
     ensures { λ r. ⌜ StepSays (now (part .entry)) at (now (counts .entry)) truths (r .next) (r .holds) ⌝ }
@@ -131,7 +131,7 @@ fn step_at(part: &[u32], at: usize, counts: &[u32; STATES], truths: u64) -> Step
 }
 
 // Whether children whose states occur so often fit a count part: the last step decides.
-pub fn count_fits(part: &[u32], counts: &[u32; STATES]) -> bool
+pub fn count_fits(part: &[u32], counts: &[u32]) -> bool
     requires part { ⌜ CountPart (now part) ⌝ }
     requires counts { ⌜ Counts (now counts) ⌝ }
     ensures { λ r. ⌜ CountSays (now (part .entry)) (now (counts .entry)) r ⌝ }

@@ -4,7 +4,7 @@ use mathlib.Core.Logic.{_≢_}
 use mathlib.Core.Bool.{Bool, true, false, _||_, or-assoc, or-true, _&&_}
 use mathlib.Core.List.{List, [], _∷_, _++_, append-assoc, append-nil}
 use mathlib.Core.Option.{Option, none, some}
-use Prim.Native.Nat.{ℕ, _+_, _-_, _≤_, _<_, zero, suc, _^_}
+use Prim.Native.Nat.{ℕ, _+_, _-_, _*_, _≤_, _<_, zero, suc, _^_}
 use native.Mathlib.Numerals.{add-one}
 use native.Mathlib.Omega.{arith}
 use lib.Dec.{eqb, eqb·zero-suc}
@@ -30,61 +30,68 @@ use Rattle.judge_rules.specs.declared.targets.Found.{Found}
 use Rattle.judge_rules.proofs.TargetLaws.{no-tag}
 use Rattle.judge_contents.specs.Content.{FindsContent}
 use Rattle.judge_node.specs.Node.{Sized, Shaped, words-between, Small, words-inside, lone-states, inside-targets, inside-looks}
-use Rattle.judge_node.specs.Node.{node-targets, node-looks}
+use Rattle.judge_node.specs.Node.{Several, node-targets, node-looks}
 use Rattle.judge_node.specs.Judging.{Gathered, Judging, FindsInside, FindsNode}
 use Rattle.judge_node.specs.declared.Children.{Children}
 use Rattle.judge_node.specs.declared.Children.the-variants.{Stateless, Number}
 use Rattle.judge_node.proofs.NodeLaws.{sized, words-done, words-more}
 use Rattle.judge_node.specs.declared.At.{At}
 
--- the front of a list that is filled, with one word more
-take-stored : (l : List ℕ) (n x : ℕ) → n < length l → take (n + 1) (set l n x) ≡ take n l ++ (x ∷ [])
-take-stored l n x h = rw (add-one n) (take-suc-set l n x h)
-
 has-append : (l m : List ℕ) (q : ℕ) → has (l ++ m) q ≡ (has l q || has m q)
 unfolding has
 has-append [] m q = refl
 has-append (x ∷ l) m q = ap (λ (b : Bool). eqb q x || b) (has-append l m q) ∙ sym (or-assoc (eqb q x) (has l q) (has m q))
 
+-- a child of node i, before those after it
+next-word : {tree : List ℕ} (states : List ℕ) (i : ℕ) {at z : ℕ} → Shaped tree (length states) → 4 * (i + size-at tree i) ≤ length tree → Sized tree at z
+    → at < i + size-at tree i
+    → words-between tree states at (i + size-at tree i) ≡ getD states at 0 ∷ words-between tree states (at + z) (i + size-at tree i)
+next-word {tree} states i {at} t within here inside = words-more states at (i + size-at tree i) t here inside (omega (arith, t .long))
+
 -- so far the first n words are those of the children before node `at`, and none of them is 0
-pub record Gathering (tree states : List ℕ) (first end room : ℕ) (words : List ℕ) (n at : ℕ) : Type 0 where
+pub record Gathering (tree states : List ℕ) (i room : ℕ) (words : List ℕ) (n at : ℕ) : Type 0 where
   pub long : length words ≡ room
   pub few : (n ≤ at) × (n ≤ room)
-  pub rest : take n words ++ words-between tree states at end ≡ words-between tree states first end
+  pub rest : take n words ++ words-between tree states at (i + size-at tree i) ≡ words-inside tree states i
   pub full : has (take n words) 0 ≡ false
 
-pub gather-none : (tree states : List ℕ) (first end : ℕ) (words : List ℕ) → Gathering tree states first end (length words) words 0 first
+pub gather-none : (tree states : List ℕ) (i : ℕ) (words : List ℕ) → Gathering tree states i (length words) words 0 (i + 1)
 unfolding has
-gather-none tree states first end words = record { long = refl; few = (omega arith, omega arith); rest = refl; full = refl }
+gather-none tree states i words = record { long = refl; few = (omega arith, omega arith); rest = refl; full = refl }
 
-module _ {tree states : List ℕ} {first end room : ℕ} {words : List ℕ} {n at : ℕ} (g : Gathering tree states first end room words n at) where
-  pub gather-done : end ≤ at → Gathered (Number n) (words-between tree states first end) words
+module _ {tree states : List ℕ} {i room : ℕ} {words : List ℕ} {n at : ℕ} (g : Gathering tree states i room words n at) {size : ℕ}
+    (whole : Sized tree i size) where
+  pub gather-done : i + size ≤ at → Gathered (Number n) (words-inside tree states i) words
   gather-done h =
-      let e : take n words ≡ words-between tree states first end = sym (append-nil (take n words)) ∙ rw (words-done tree states at end h)
-      at (g .rest) in
+      let none = words-done tree states at (i + size-at tree i) (omega (arith, whole .is)) in
+      let e : take n words ≡ words-inside tree states i = sym (append-nil (take n words)) ∙ rw none at (g .rest) in
       (e, omega (arith, g .few, g .long), ap (λ (l : List ℕ). has l 0) (sym e) ∙ g .full)
 
-  module _ (t : Shaped tree (length states)) (inside : at < end) (whole : end ≤ length states) where
-    pub gather-zero : getD states at 0 ≡ 0 → has (words-between tree states first end) 0 ≡ true
+  module _ (t : Shaped tree (length states)) (inside : at < i + size) where
+    -- the child in hand, before the others
+    its-word : {z : ℕ} → Sized tree at z → words-between tree states at (i + size-at tree i) ≡ getD states at 0 ∷ words-between tree states
+        (at + z) (i + size-at tree i)
+    its-word here = next-word states i t (omega (arith, whole .is, whole .within)) here (omega (arith, whole .is))
+
+    pub gather-zero : getD states at 0 ≡ 0 → has (words-inside tree states i) 0 ≡ true
     unfolding has
     gather-zero z =
-        sym (ap (λ (l : List ℕ). has l 0) (g .rest)) ∙ has-append (take n words) (words-between tree states at end) 0
-        ∙ rw (words-more states at end t (sized (t .sizes) (omega (arith, t .long)) refl) inside whole, z) (or-true (has (take n words) 0))
+        let here = sized {i = at} (t .sizes) (omega (arith, whole .within)) refl in
+        sym (ap (λ (l : List ℕ). has l 0) (g .rest)) ∙ has-append (take n words) (words-between tree states at (i + size-at tree i)) 0
+        ∙ rw (its-word here, z) (or-true (has (take n words) 0))
 
     pub gather-more : {z : ℕ} → Sized tree at z → getD states at 0 ≢ 0 → length states ≤ room
-        → Gathering tree states first end room (set words n (getD states at 0)) (n + 1) (at + z)
+        → Gathering tree states i room (set words n (getD states at 0)) (n + 1) (at + z)
     unfolding has
     gather-more {z} here nz fits =
         let x = getD states at 0 in
-        let e : take (n + 1) (set words n x) ≡ take n words ++ (x ∷ []) = take-stored words n x (omega (arith, g .few, g .long)) in
+        let next : n < length words = omega (arith, g .few, g .long, whole .within, t .long) in
+        let e : take (n + 1) (set words n x) ≡ take n words ++ (x ∷ []) = rw (add-one n) (take-suc-set words n x next) in
         record {
           long = length-set words n x ∙ g .long;
           few = omega (arith, g .few, here .some);
-          rest = rw (
-            e,
-            append-assoc (take n words) (x ∷ []) (words-between tree states (at + z) end),
-            ← words-more states at end t here inside whole,
-          ) (g .rest);
+          rest = rw (e, append-assoc (take n words) (x ∷ []) (words-between tree states (at + z) (i + size-at tree i)), ← its-word here)
+              (g .rest);
           full = rw e (has-append (take n words) (x ∷ []) 0 ∙ rw (g .full, eqb-false (λ k. nz (sym k))));
         }
 
@@ -167,75 +174,67 @@ module _ {s index : List ℕ} {at : At} {tree states words : List ℕ} (j : Judg
   abbrev i : ℕ
   i = at .node
 
+  abbrev end : ℕ
+  end = i + size-at tree i
+
   abbrev R : List Rule
   R = rules-in s
 
   pub child-small : getD states (i + 1) 0 ≤ 64
   child-small = small-at states (i + 1) (j .small)
 
-  module _ {size : ℕ} (whole : Sized tree i size) where
-    -- no child
-    pub leaf-inside : size ≡ 1 → FindsInside R tree states i (at .nothing)
-    unfolding inside-targets inside-looks child-words child-states
-    leaf-inside alone =
-        let none : i + size-at tree i - (i + 1) ≡ 0 = omega (arith, whole .is) in
-        rw none (j .nothing)
+  -- no child
+  pub leaf-inside : {size : ℕ} → Sized tree i size → size ≡ 1 → FindsInside R tree states i (at .nothing)
+  unfolding inside-targets inside-looks child-words child-states
+  leaf-inside whole alone = let none : end - (i + 1) ≡ 0 = omega (arith, whole .is) in rw none (j .nothing)
 
-    -- where an element is more than one node, there is a first child
-    module _ (more : size ≢ 1) {z : ℕ} (child : Sized tree (i + 1) z) where
-      end-within : i + size ≤ length states
-      end-within = omega (arith, whole .within, j .shaped .long)
+  end-within : 4 * end ≤ length tree
+  end-within = j .shaped .sizes .each i (omega (arith, j .node, j .shaped .long)) .1
 
-      first-word : words-between tree states (i + 1) (i + size) ≡ getD states (i + 1) 0 ∷ words-between tree states (i + 1 + z) (i + size)
-      first-word = words-more states (i + 1) (i + size) (j .shaped) child (omega (arith, whole .some)) end-within
+  -- one child
+  pub lone-inside : {size z : ℕ} → Sized tree i size → size ≢ 1 → Sized tree (i + 1) z → i + size ≤ i + 1 + z → {f : Found}
+      → Finds (2 ^ 42) f (lone-states (getD states (i + 1) 0)) 0 → FindsInside R tree states i f
+  unfolding inside-targets inside-looks content-targets child-states
+  lone-inside {z = z} whole more child only f =
+      rw (next-word states i (j .shaped) end-within child (omega (arith, whole .is, whole .some)), words-done tree states (i + 1 + z) end (omega (arith, whole .is)))
+      (go (getD states (i + 1) 0) f)
+    where
+      go : (word : ℕ) {f : Found} → Finds (2 ^ 42) f (lone-states word) 0
+          → Finds (2 ^ 42) f (inside-targets R (child-states (word ∷ []))) (inside-looks R (child-states (word ∷ [])))
+      go zero f = f
+      go (suc q) f = f
 
-      -- one child
-      pub lone-inside : i + size ≤ i + 1 + z → {f : Found} → Finds (2 ^ 42) f (lone-states (getD states (i + 1) 0)) 0
-          → FindsInside R tree states i f
-      unfolding inside-targets inside-looks content-targets child-states
-      lone-inside only f = rw (← whole .is, first-word, words-done tree states (i + 1 + z) (i + size) only) (go (getD states (i + 1) 0) f)
-        where
-          go : (word : ℕ) {f : Found} → Finds (2 ^ 42) f (lone-states word) 0
-              → Finds (2 ^ 42) f (inside-targets R (child-states (word ∷ []))) (inside-looks R (child-states (word ∷ [])))
-          go zero f = f
-          go (suc q) f = f
+  -- several children
+  several-words : Several tree i → length (words-inside tree states i) ≢ 1
+  several-words several =
+      let child = sized {i = i + 1} (j .shaped .sizes) (omega (arith, end-within)) refl in
+      let next = sized {i = i + 1 + size-at tree (i + 1)} (j .shaped .sizes) (omega (arith, end-within)) refl in
+      rw (next-word states i (j .shaped) end-within child (omega arith), next-word states i (j .shaped) end-within next several) (λ e. absurd (omega arith))
 
-      -- several children
-      several-words : i + 1 + z < i + size → length (words-between tree states (i + 1) (i + size)) ≢ 1
-      several-words several =
-          let next = i + 1 + z in
-          let here : Sized tree next (size-at tree next) = sized (j .shaped .sizes) (omega (arith, whole .within)) refl in
-          rw (first-word, words-more states next (i + size) (j .shaped) here several end-within) (λ e. absurd (omega arith))
+  module _ {children : Children} (left : List ℕ) (got : Gathered children (words-inside tree states i) left) where
+    -- one of them has no state
+    pub stateless-inside : children ≡ Stateless → FindsInside R tree states i (record { targets = 0; looks = 0 })
+    unfolding inside-targets inside-looks
+    stateless-inside is = rw (states-none (words-inside tree states i) (none-gathered _ left got is)) nothing-found
 
-    module _ {children : Children} (left : List ℕ) (got : Gathered children (words-between tree states (i + 1) (i + size)) left) where
-      -- one of them has no state
-      pub stateless-inside : children ≡ Stateless → FindsInside R tree states i (record { targets = 0; looks = 0 })
+    -- all of them have one
+    module _ {n : ℕ} (is : children ≡ Number n) where
+      pub gathered-within : n ≤ length left
+      gathered-within = all-gathered _ left got is .1
+
+      pub gathered-words : Several tree i → StateWords (take n left) × (length (take n left) ≢ 1)
+      gathered-words several =
+          let (same, _, full) = all-gathered _ left got is in
+          let small = words-small (end - (i + 1)) 0 (drop (i + 1) (items tree)) (drop (i + 1) states) (j .small) in
+          let few = words-few (end - (i + 1)) 0 (drop (i + 1) (items tree)) (drop (i + 1) states) in
+          let each = each-word (words-inside tree states i) small full in
+          rw same (record { each = each; few = omega (arith, few, end-within, j .shaped .long, j .shaped .few) }, several-words several)
+
+      pub several-inside : {f : Found} → FindsContent R (states-of (take n left)) f → FindsInside R tree states i f
       unfolding inside-targets inside-looks
-      stateless-inside is =
-          rw (← whole .is, states-none (words-between tree states (i + 1) (i + size)) (none-gathered _ left got is)) nothing-found
-
-      -- all of them have one
-      module _ {n : ℕ} (is : children ≡ Number n) where
-        pub gathered-within : n ≤ length left
-        gathered-within = all-gathered _ left got is .1
-
-        pub gathered-words : size ≢ 1 → {z : ℕ} → Sized tree (i + 1) z → i + 1 + z < i + size → StateWords (take n left) ×
-            (length (take n left) ≢ 1)
-        gathered-words more child several =
-            let (same, _, full) = all-gathered _ left got is in
-            let small = words-small (i + size - (i + 1)) 0 (drop (i + 1) (items tree)) (drop (i + 1) states) (j .small) in
-            let few = words-few (i + size - (i + 1)) 0 (drop (i + 1) (items tree)) (drop (i + 1) states) in
-            let each = each-word (words-between tree states (i + 1) (i + size)) small full in
-            rw same (
-              record { each = each; few = omega (arith, few, whole .within, j .shaped .long, j .shaped .few) },
-              several-words more child several,
-            )
-
-        pub several-inside : {f : Found} → FindsContent R (states-of (take n left)) f → FindsInside R tree states i f
-        unfolding inside-targets inside-looks
-        several-inside f =
-            let (same, _, full) = all-gathered _ left got is in
-            rw (← whole .is, states-some (words-between tree states (i + 1) (i + size)) full) (rw same at f)
+      several-inside f =
+          let (same, _, full) = all-gathered _ left got is in
+          rw (states-some (words-inside tree states i) full) (rw same at f)
 
 -- ---- a node, by what its symbol says
 

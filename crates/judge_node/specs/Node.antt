@@ -41,6 +41,10 @@ words-between tree states first end = child-words (end - first) 0 (drop first (i
 abbrev pub words-inside : (tree states : List ℕ) (i : ℕ) → List ℕ
 words-inside tree states i = words-between tree states (i + 1) (i + size-at tree i)
 
+-- node i has more than one child
+abbrev pub Several : (tree : List ℕ) (i : ℕ) → Type 0
+Several tree i = i + 1 + size-at tree (i + 1) < i + size-at tree i
+
 -- the states that content of one child reaches, by that child's state word: its state, if it has one
 abbrev pub lone-states : ℕ → List ℕ
 lone-states zero = []

@@ -1,9 +1,9 @@
 // A node: the states that it reaches, and the looks that it takes.
-ghost use Prim.Native.Nat.{_+_, _*_, _^_, _≤_};
+ghost use Prim.Native.Nat.{_+_, _*_, _^_, _≤_, _<_};
 ghost use lib.ListN.{length};
 ghost use Rattle.model.specs.Index.{rules-in};
 ghost use Rattle.judge_rules.specs.Found.{Finds};
-ghost use Rattle.judge_node.specs.Node.{Sizes, Sized, Shaped, words-between, lone-states};
+ghost use Rattle.judge_node.specs.Node.{Sizes, Sized, Shaped, words-inside, lone-states, Several};
 ghost use Rattle.judge_node.specs.Judging.{Gathered, Judging, FindsInside, FindsNode};
 use judge_contents::content;
 use judge_rules::Found;
@@ -36,14 +36,15 @@ fn size_at(tree: &[u32], i: usize) -> usize
     wide(tree[NODE_WORDS * i + 1])
 }
 
-// The state words of the elements side by side from node `first` up to node `end`, to the front of `words`.
-fn gather(tree: &[u32], states: &[u32], first: usize, end: usize, words: &mut [u32]) -> Children
-    requires tree { ⌜ Shaped (now tree) (length (now states)) ⌝ }
-    requires room { ⌜ (end ≤ length (now states)) × (length (now states) ≤ length (now words)) ⌝ }
-    ensures { λ r. ⌜ Gathered r (words-between (now (tree .entry)) (now (states .entry)) first end) (now (words .exit)) ⌝ }
+// The state words of the children of node i, to the front of `words`.
+fn gather(tree: &[u32], states: &[u32], i: usize, words: &mut [u32]) -> Children
+    requires tree { ⌜ Shaped (now tree) (length (now states)) × (i < length (now states)) ⌝ }
+    requires room { ⌜ length (now states) ≤ length (now words) ⌝ }
+    ensures { λ r. ⌜ Gathered r (words-inside (now (tree .entry)) (now (states .entry)) i) (now (words .exit)) ⌝ }
 {
+    let end = i + size_at(tree, i);
     let mut n = 0;
-    let mut at = first;
+    let mut at = i + 1;
     while at < end {
         let word = states[at];
         if word == 0 {
@@ -73,7 +74,29 @@ fn lone(word: u32) -> Found
     }
 }
 
-// What the content of a node reaches: no child, one, or several; nothing where a child has no state. `words` is lent to gather in.
+// What the content of a node with several children reaches: nothing where one of them has no state. `words` is lent to gather in.
+fn several(
+    sheet: &[u32],
+    index: &[u32],
+    at: At,
+    tree: &[u32],
+    states: &[u32],
+    words: &mut [u32],
+) -> Found
+    requires judging { ⌜ Judging (now sheet) (now index) at (now tree) (now states) (now words) ⌝ }
+    requires several { ⌜ Several (now tree) (at .node) ⌝ }
+    ensures { λ f. ⌜ FindsInside (rules-in (now (sheet .entry))) (now (tree .entry)) (now (states .entry)) (at .node) f ⌝ }
+{
+    let Children::Number(n) = gather(tree, states, at.node, words) else {
+        return Found {
+            targets: 0,
+            looks: 0,
+        };
+    };
+    content(sheet, index, at.rules, &words[..n])
+}
+
+// What the content of a node reaches, by its children: none, one or several. `words` is lent to gather in.
 fn inside(
     sheet: &[u32],
     index: &[u32],
@@ -95,13 +118,7 @@ fn inside(
     if end <= first + size_at(tree, first) {
         return lone(states[first]);
     }
-    let Children::Number(n) = gather(tree, states, first, end, words) else {
-        return Found {
-            targets: 0,
-            looks: 0,
-        };
-    };
-    content(sheet, index, at.rules, &words[..n])
+    several(sheet, index, at, tree, states, words)
 }
 
 // The states that a node reaches, a text or an element. `words` is lent to gather in.

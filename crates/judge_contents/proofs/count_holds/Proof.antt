@@ -1,6 +1,6 @@
--- `judge_contents::count_holds` meets its contract: without a count part, whatever is asked of one holds.
-use mathlib.Core.Path.{sym, refl, _∙_}
-use Rattle.model.proofs.Tests.{never}
+-- `judge_contents::count_holds` meets its contract: without a word there is no part, and whatever is asked of one holds.
+use borrow.Author.Needs.{needs}
+use Rattle.judge_contents.proofs.ContentLaws.{no-part, part-fits}
 use Rattle.judge_contents.proofs.count_holds.Statement.{statement}
 use Rattle.judge_contents.proofs.count_holds.Tie as tie
 
@@ -8,6 +8,10 @@ pub count-holds-spec : {M : Type 1} → statement M
 count-holds-spec =
     tie.close
     (tie.spec
-    (λ c κs. c .before .before .pre .lent (c .if1 .taken))
-    (λ c. record { by-part = λ e. c .count-fits .ensures; by-none = λ e. never (sym e ∙ c .before .if1 .taken) })
-    (λ c. record { by-part = λ e. never (sym (c .if1 .left) ∙ e); by-none = λ e. refl }))
+    (λ c. search (no-part, needs))
+    (λ c. search needs)
+    (λ c. search needs)
+    (λ c. search needs)
+    (λ c. search needs)
+    (λ c κs. c .before .before .before .before .pre .lent (c .before .if1 .left))
+    (λ c. search (part-fits, needs)))

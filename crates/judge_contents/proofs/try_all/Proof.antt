@@ -47,7 +47,7 @@ try-all-spec =
     let after = tried .before .before in
     let here = after .before .before in
     let loop = here .before .before .before in
-    let start = loop .before .before .before .before .before .before in
+    let start = loop .before .before .before .before .before .before .before in
     trying-more (start .pre .0) (loop .loop .inv) (here .before .before .loop-test .taken) refl
     (here .entry-of .ensures .0) refl (after .entry-of2 .ensures .0)
     (here .entry-of .ensures .1) (tried .try-rule .ensures) (c .before .with-if .ensures))

@@ -3,7 +3,7 @@ use mathlib.Core.Path.{refl}
 use Prim.Native.Nat.{_-_}
 use native.Mathlib.Omega.{arith}
 use borrow.Author.Needs.{needs}
-use Rattle.judge_count.proofs.StepLaws.{StepsLeft, steps-there, steps-few, no-step, step-here, one-step, all-steps}
+use Rattle.judge_count.proofs.StepLaws.{StepsLeft, steps-there, few-steps, no-step, step-here, one-step, all-steps}
 use Rattle.judge_count.proofs.count_fits.Statement.{statement}
 use Rattle.judge_count.proofs.count_fits.Tie as tie
 
@@ -19,14 +19,14 @@ count-fits-spec =
     (tie.spec
     Inv-loop
     μ-loop
-    (λ c. steps-there (c .before .before .pre .0))
-    (λ c. no-step refl)
-    (λ c κs. let p = c .before .before .before .before .pre in (step-here (c .before .loop .inv) (c .loop-test .taken) (p .0) (p .1), p .1))
+    (λ c. search (steps-there, needs))
+    (λ c. search (no-step, needs))
+    (λ c κs. search (step-here, needs))
     (λ c κs. search needs)
-    (λ c. omega (arith, steps-few (c .before .before .before .before .before .before .pre .0)))
+    (λ c. omega (arith, few-steps (c .before .before .before .loop .inv)))
     (λ c. omega arith)
     (λ c. one-step (c .before .before .before .loop .inv) _ (c .before .before .loop-test .taken) (c .before .step-at .ensures)
     (c .with-if .ensures))
-    (λ c. omega (arith, steps-few (c .before .before .before .before .pre .0)))
+    (λ c. omega (arith, few-steps (c .before .loop .inv)))
     (λ c κs. search needs)
-    (λ c. all-steps (c .before .before .loop .inv) (c .before .loop-test .left) (c .has .ensures)))
+    (λ c. search (all-steps, needs)))

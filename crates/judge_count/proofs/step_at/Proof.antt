@@ -9,31 +9,31 @@ use Rattle.judge_count.proofs.step_at.Statement.{statement}
 use Rattle.judge_count.proofs.step_at.Tie as tie
 
 -- the words behind the kind stand in the part
-not-room : (c : tie.At-match-keys3) → c .before .before .before .args .at + 1 < length (c .before .before .before .args .part .now)
-not-room c = said 3 (c .match .keys3) (c .before .before .before .pre .0) .room
+not-room : (c : tie.At-match-keys3) → c .before .before .before .before .args .at + 1 < length (c .before .before .before .before .args .part .now)
+not-room c = said 3 (c .match .keys3) (c .before .before .before .before .pre .0) .room
 
-and-room : (c : tie.At-match-keys4) → c .before .before .before .args .at + 2 < length (c .before .before .before .args .part .now)
-and-room c = said 4 (c .match .keys4) (c .before .before .before .pre .0) .room
+and-room : (c : tie.At-match-keys4) → c .before .before .before .before .args .at + 2 < length (c .before .before .before .before .args .part .now)
+and-room c = said 4 (c .match .keys4) (c .before .before .before .before .pre .0) .room
 
-or-room : (c : tie.At-match-keys5) → c .before .before .before .args .at + 2 < length (c .before .before .before .args .part .now)
-or-room c = said 5 (c .match .keys5) (c .before .before .before .pre .0) .room
+or-room : (c : tie.At-match-keys5) → c .before .before .before .before .args .at + 2 < length (c .before .before .before .before .args .part .now)
+or-room c = said 5 (c .match .keys5) (c .before .before .before .before .pre .0) .room
 
 pub step-at-spec : {M : Type 1} → statement M
 step-at-spec =
     tie.close
     (tie.spec
-    (λ c. omega (arith, kind-there (c .before .pre .0)))
-    (λ c. kind-there (c .before .before .pre .0) .0)
-    (λ c. omega (arith, marks-there (said 1 (c .match .keys1) (c .before .before .before .pre .0) .sum)))
-    (λ c κs. (said 1 (c .match .keys1) (c .before .before .before .pre .0) .sum, c .before .before .before .pre .1))
+    (λ c. omega (arith, kind-there (c .before .before .pre .0)))
+    (λ c. kind-there (c .before .before .before .pre .0) .0)
+    (λ c. omega (arith, marks-there (said 1 (c .match .keys1) (c .before .before .before .before .pre .0) .sum)))
+    (λ c κs. (said 1 (c .match .keys1) (c .before .before .before .before .pre .0) .sum, c .before .before .before .before .pre .1))
     (λ c κs.
-    let start = c .before .before .before .before in
+    let start = c .before .before .before .before .before in
     let a = said 1 (c .before .match .keys1) (start .pre .0) in
     omega (arith, sum-room (c .sum-at .ensures) (start .pre .1) (a .sum) (a .rest)))
-    (λ c. omega (arith, marks-there (said 2 (c .match .keys2) (c .before .before .before .pre .0) .sum)))
-    (λ c κs. (said 2 (c .match .keys2) (c .before .before .before .pre .0) .sum, c .before .before .before .pre .1))
+    (λ c. omega (arith, marks-there (said 2 (c .match .keys2) (c .before .before .before .before .pre .0) .sum)))
+    (λ c κs. (said 2 (c .match .keys2) (c .before .before .before .before .pre .0) .sum, c .before .before .before .before .pre .1))
     (λ c κs.
-    let start = c .before .before .before .before in
+    let start = c .before .before .before .before .before in
     let a = said 2 (c .before .match .keys2) (start .pre .0) in
     sum-room (c .sum-at2 .ensures) (start .pre .1) (a .sum) (a .rest))
     (λ c. omega (arith, not-room c))

@@ -8,7 +8,7 @@ use mir.Syntax.{w32}
 use mir.Val.{toZ, ofZ}
 use mir.Facts.{toZ-ofZ}
 use Rattle.model.specs.Sheet.{members, signed}
-use Rattle.judge_count.proofs.SumLaws.{SumLeft, marks-there, no-term, fewer-left, term-place, term-room, one-term, all-terms}
+use Rattle.judge_count.proofs.SumLaws.{SumLeft, marks-there, no-term, fewer-left, term-there, term-counted, term-room, one-term, all-terms}
 use Rattle.judge_count.proofs.sum_at.Statement.{statement}
 use Rattle.judge_count.proofs.sum_at.Tie as tie
 
@@ -18,17 +18,9 @@ Inv-loop part from counts marks₀ at₀ total₀ marks at total = SumLeft part 
 abbrev μ-loop : tie.MeasureT-loop
 μ-loop part from counts marks₀ at₀ total₀ marks at total = length (members 64 marks)
 
--- the coefficient in hand is in the part, and is a state's
-place : (c : tie.After-lowest Inv-loop μ-loop) → let loop = c .before .before in let start = loop .before .before .before .before .before in
-    (loop .loop .at < length (start .args .part .now)) × (getD (members 64 (loop .loop .marks)) 0 64 < 64)
-place c =
-    let loop = c .before .before in
-    let start = loop .before .before .before .before .before in
-    term-place (loop .loop .inv) (c .before .loop-test .taken) (start .pre .0) (start .pre .1)
-
 -- the coefficient in hand, as the machine has it
 times-is : (c : tie.After-signed Inv-loop μ-loop) → let loop = c .before .before .before .before in let start =
-    loop .before .before .before .before .before in
+    loop .before .before .before .before .before .before in
     toZ w32 (ofZ w32 (c .signed .result)) ≡ signed (getD (start .args .part .now) (loop .loop .at) 0)
 times-is c = toZ-ofZ (record { sfits = c .signed .ok }) ∙ c .signed .ensures
 
@@ -38,36 +30,37 @@ sum-at-spec =
     (tie.spec
     Inv-loop
     μ-loop
-    (λ c. omega (arith, marks-there (c .before .pre .0)))
     (λ c. omega (arith, marks-there (c .before .before .pre .0)))
-    (λ c. omega (arith, marks-there (c .before .before .pre .0)))
-    (λ c. omega (arith, marks-there (c .before .before .pre .0)))
-    (λ c. marks-there (c .before .before .before .pre .0))
+    (λ c. omega (arith, marks-there (c .before .before .before .pre .0)))
+    (λ c. omega (arith, marks-there (c .before .before .before .pre .0)))
+    (λ c. omega (arith, marks-there (c .before .before .before .pre .0)))
+    (λ c. search (marks-there, needs))
     (λ c κs. search needs)
-    (λ c. omega (arith, marks-there (c .before .before .before .before .pre .0)))
-    (λ c. no-term (c .before .before .before .before .pre .0) (c .of-words .ensures))
+    (λ c. omega (arith, marks-there (c .before .before .before .before .before .pre .0)))
+    (λ c. search (no-term, needs))
     (λ c κs. search needs)
     (λ c. search needs)
-    (λ c. omega (arith, place c .0))
-    (λ c. place (c .before) .0)
-    (λ c κs. search needs)
-    (λ c. omega (arith, c .before .before .lowest .ensures, place (c .before .before) .1))
-    (λ c. omega (arith, c .before .before .lowest .ensures, place (c .before .before) .1))
-    (λ c κs.
-    let here = c .before .before .before in
-    let loop = here .before .before in
-    let start = loop .before .before .before .before .before in
-    term-room (loop .loop .inv) (here .before .loop-test .taken) (here .lowest .ensures) (times-is (c .before)) (start .pre .0)
-    (start .pre .1))
-    (λ c. omega (arith, place (c .before .before .before .before) .0))
+    (λ c. omega (arith, term-there (c .before .before .loop .inv) (c .before .loop-test .taken)))
+    (λ c. search (term-there, needs))
     (λ c κs. search needs)
     (λ c.
-    let loop = c .before .before .before .before .before .before .before in
-    fewer-left (loop .loop .inv) (c .before .before .before .before .before .before .loop-test .taken) _ (c .without-lowest .ensures))
+    let here = c .before .before in
+    omega (arith, term-counted (here .before .before .loop .inv) (here .before .loop-test .taken) (here .lowest .ensures)))
+    (λ c.
+    let here = c .before .before .before in
+    term-counted (here .before .before .loop .inv) (here .before .loop-test .taken) (here .lowest .ensures))
+    (λ c κs.
+    let here = c .before .before .before in
+    term-room (here .before .before .loop .inv) (here .before .loop-test .taken) (here .lowest .ensures) (times-is (c .before)))
+    (λ c.
+    let here = c .before .before .before .before in
+    omega (arith, term-there (here .before .before .loop .inv) (here .before .loop-test .taken)))
+    (λ c κs. search needs)
+    (λ c. search (fewer-left, needs))
     (λ c.
     let here = c .before .before .before .before .before in
     let sum = toZ-ofZ (record { sfits = c .before .plus-times .ok }) ∙ c .before .plus-times .ensures in
     one-term (here .before .before .loop .inv) (here .before .loop-test .taken) (here .lowest .ensures)
     (times-is (c .before .before .before)) sum
     (c .without-lowest .ensures) (c .without-lowest .ok))
-    (λ c. all-terms (c .before .loop .inv) (c .loop-test .left)))
+    (λ c. search (all-terms, needs)))

@@ -7,10 +7,10 @@ use Rattle.judge_node.proofs.gather.Statement.{statement}
 use Rattle.judge_node.proofs.gather.Tie as tie
 
 abbrev Inv-loop : tie.InvT-loop
-Inv-loop tree states first end words₀ n₀ at₀ words n at = Gathering tree states first end (length words₀) words n at
+Inv-loop tree states i words₀ end n₀ at₀ words n at = Gathering tree states i (length words₀) words n at
 
 abbrev μ-loop : tie.MeasureT-loop
-μ-loop tree states first end words₀ n₀ at₀ words n at = end - at
+μ-loop tree states i words₀ end n₀ at₀ words n at = end - at
 
 pub gather-spec : {M : Type 1} → statement M
 gather-spec =
@@ -18,7 +18,10 @@ gather-spec =
     (tie.spec
     Inv-loop
     μ-loop
-    (λ c. gather-none _ _ _ _ _)
+    (λ c κs. search needs)
+    (λ c. search needs)
+    (λ c. search needs)
+    (λ c. gather-none _ _ _ _)
     (λ c. search needs)
     (λ c. search needs)
     (λ c. search needs)
