@@ -6,11 +6,9 @@ use mathlib.Core.Option.{Option, none, some}
 use mathlib.Core.Logic.{_≢_}
 use Prim.Native.Nat.{ℕ, suc, _+_, _-_, _^_, _≤_, _<_, _*_, _/_, _%_}
 use native.Mathlib.Omega.{arith}
-use lib.ListN.{length, getD, take, drop, length-map, replicate, length-replicate, length-append, drop-of-length-le}
+use lib.ListN.{length, getD, take, drop, replicate, length-replicate, length-append, drop-of-length-le}
 use lib.Dec.{eqb}
 use borrow.Author.Tests.{not-true, not-false}
-use mir.Syntax.{w64}
-use mir.Val.{Fits}
 use Rattle.model.specs.Sheet.{Order, Step, Rule, one, two, three, count-words, rule-words, mask, bit}
 use Rattle.model.specs.Words.{fits-order, fits-count, reads}
 use Rattle.model.specs.Words as Words
@@ -24,6 +22,7 @@ use Rattle.model.proofs.PassedLaws.{few-words}
 use Rattle.model.proofs.IndexLaws.{rule-ends, chain-first, chain-next}
 use Rattle.judge_order.specs.Order.{StateWords, states-of, OrderPart, OrderSays}
 use Rattle.judge_count.specs.Count.{Occurs, CountPart, CountSays}
+use Rattle.judge_count.proofs.SumLaws.{length-states}
 use Rattle.judge_rules.specs.Rules.{Ruled, RulesOf, with-count}
 use Rattle.judge_rules.specs.declared.numbers.Rules.{Rules}
 use Rattle.judge_rules.specs.declared.targets.Found.{Found}
@@ -34,10 +33,6 @@ use Rattle.judge_contents.specs.Content.{ContentAt, CountedAt, CountIf, 
 -- a part of a list
 abbrev part : List ℕ → (from end : ℕ) → List ℕ
 part s from end = take (end - from) (drop from s)
-
-pub length-states : (words : List ℕ) → length words ≡ length (states-of words)
-unfolding states-of
-length-states words = sym (length-map words (λ x. x - 1))
 
 -- a count part without a word is none
 pub no-part : {s counts : List ℕ} {from end : ℕ} → from ≡ end → CountHolds s from end counts true
@@ -180,7 +175,7 @@ module _ {s : List ℕ} {at target : ℕ} where
     unordered-tries t h = tried here (omega (arith, ok .few)) (λ c.
         let (e, m) = order-none c er t in
         let says = count-told c m o h in
-        rw e (says, length-states words))
+        rw e (says, sym (length-states words)))
 
     module _ (t : not r ≡ false) {m : ℕ} (em : m ≡ at + 1 + 4 + getD s (at + 1 + 3) 0) where
       pub second-lent : CountIf s m target counts
@@ -202,10 +197,6 @@ module _ {s : List ℕ} {at target : ℕ} where
         ordered-tries e h = tried here (omega arith) (λ c.
             let holding = count-told c (middle-is c er t em) o h in
             (rw (sym (fitting c) ∙ not-false fits e) holding, reading c))
-
--- a look, and one for each child that is read
-pub look-fits : {s : List ℕ} {at target : ℕ} {w : List ℕ} {fits : Bool} {n : ℕ} → Tries s at target w fits n → Fits w64 (1 + n)
-look-fits t = record { fits = omega (arith, t .few) }
 
 -- ---- looks along the chain
 
@@ -279,11 +270,6 @@ pub record Trying (R : List Rule) (w : List ℕ) (i targets looks : ℕ) : Type 
   pub chain : OnChain (at-content w) 0 R i targets
   pub taking : looks + tries (drop i R) w ≡ tries R w
   pub few : (looks ≤ i * 2 ^ 32) × (looks ≤ 2 ^ 42)
-
-pub looks-fit : {R : List Rule} {s w : List ℕ} {at target i targets looks reads : ℕ} {fits : Bool} → Trying R w i targets looks → Tries s
-    at target w fits reads
-    → Fits w64 (looks + (1 + reads))
-looks-fit g t = record { fits = omega (arith, t .few, g .few .1) }
 
 module _ {s index : List ℕ} {rules : ℕ} (h : Ruled s index rules) {w : List ℕ} where
   pub trying-begun : {word i : ℕ} → word ≡ getD index 0 0 → i ≡ word → Trying (rules-in s) w i 0 0
@@ -364,7 +350,7 @@ all-tried R (q ∷ r ∷ w) n = (refl, refl)
 
 pub several-found : (R : List Rule) (words : List ℕ) → length words ≢ 1 → {f : Found} → FindsTargets R (states-of words) f → FindsContent R
     (states-of words) f
-several-found R words n f = let (a, b) = all-tried R (states-of words) (λ e. n (length-states words ∙ e)) in rw (a, b) f
+several-found R words n f = let (a, b) = all-tried R (states-of words) (λ e. n (sym (length-states words) ∙ e)) in rw (a, b) f
 
 pub no-words : StateWords [] × (length {A = ℕ} [] ≢ 1)
 no-words = (record { each = λ k h. absurd (omega arith); few = omega arith }, λ e. absurd (omega arith))

@@ -273,7 +273,8 @@ module _ {part : List ℕ} (h : CountPart part) where
 
 -- ---- what the loop keeps
 
-pub no-step : {part counts : List ℕ} {steps : ℕ} → CountPart part → Counts counts → steps ≡ getD part 0 0 → StepsLeft part counts steps 0 1 0
+pub no-step : {part counts : List ℕ} {steps : ℕ} → CountPart part → Counts counts → steps ≡ getD part 0 0
+    → StepsLeft part counts steps 0 1 0
 no-step h k e = record { coded = h; occur = k; counted = e; within = omega arith; left = λ h w o. (h .steps, first-step h w) }
 
 module _ {part counts : List ℕ} {steps set at i : ℕ} (left : StepsLeft part counts steps set at i) where

@@ -4,11 +4,10 @@ use mathlib.Core.Bool.{Bool, true, false, cond}
 use mathlib.Core.List.{List, [], _∷_, List·Memᴰ·head, List·Memᴰ·tail, map}
 use mathlib.Core.Logic.{_≢_}
 use Prim.Native.Nat.{ℕ, zero, suc, _+_, _-_, _≤_, _<_, _*_, _^_}
-use native.Mathlib.Numerals.{add-one}
 use native.Mathlib.Omega.{arith}
 use native.Mathlib.Nat.{le-refl, lt-of-le-of-lt, mul-le-mul-right}
 use lib.Dec.{eqb, ltb}
-use lib.ListN.{length, getD, drop, set, replicate, length-set, length-map, drop-of-length-le, length-drop}
+use lib.ListN.{length, getD, drop, set, replicate, length-set, length-map, length-drop}
 use lib.Seq.{drop-cons, drop-length, getD-set-same, getD-set-other}
 use lib.IntN.{ℤ, pos, negsuc, negℤ, natAbs, subℕ, _+ℤ_, _*ℤ_, +ℤ-assoc, +ℤ-idl, +ℤ-idr}
 use lib.Signed.{mag}
@@ -16,85 +15,18 @@ use borrow.Author.Tests.{lt-ltb, le-ltb, ltb-true}
 use mir.Syntax.{w32}
 use mir.Val.{SFits, toZ, ofZ}
 use mir.Facts.{toZ-ofZ, toZ-pos}
-use Rattle.model.specs.Lists.{_∈_, Ascending}
+use Rattle.model.specs.Lists.{_∈_, Ascending, only}
 use Rattle.model.specs.Words.{occurrences, total}
 use Rattle.model.specs.Sheet.{Coefficient, W, set-words, signed-word, marks, sum-words, small, signed-32, members, signed}
 use Rattle.model.specs.Spans.{WordsAt}
 use Rattle.model.proofs.Tests.{Told, yea, nay, told, same, eqb-yes, eqb-no, eqb-false, eqb-like, Yes, between-inv}
+use Rattle.model.proofs.ListLaws.{asc-only}
 use Rattle.model.proofs.Spans.{word-there, word-here, word-next}
 use Rattle.model.proofs.SetWords.{members-set}
 use Rattle.bits.specs.Stands.{Stands}
 use Rattle.bits.proofs.SetLaws.{stands-none, stands-some, members-stand, stands-members, words-stand}
 use Rattle.judge_order.specs.Order.{StateWords, states-of}
 use Rattle.judge_count.specs.Count.{Occurs, Counts, SumFrom, Summed}
-
--- ---- counting occurrences
-
--- the counts are the occurrences from word i on
-pub record CountsFrom (words counts : List ℕ) (i : ℕ) : Type 0 where
-  pub within : i ≤ length words
-  pub long : length counts ≡ 64
-  pub each : (q : ℕ) → getD counts q 0 ≡ occurrences q (states-of (drop i words))
-
-occurrences-≤ : (q : ℕ) (w : List ℕ) → occurrences q w ≤ length w
-unfolding occurrences
-occurrences-≤ q [] = omega arith
-occurrences-≤ q (x ∷ w) = go (eqb q x) (occurrences-≤ q w)
-  where
-    go : (b : Bool) → occurrences q w ≤ length w → cond b 1 0 + occurrences q w ≤ suc (length w)
-    go true h = omega arith
-    go false h = omega arith
-
-length-states : (words : List ℕ) → length (states-of words) ≡ length words
-unfolding states-of
-length-states words = length-map words (λ x. x - 1)
-
-pub no-count : (words : List ℕ) → CountsFrom words (replicate 64 0) (length words)
-unfolding states-of occurrences
-no-count words = record { within = omega arith; long = refl; each = λ q. rw (drop-length words) (none q 64) }
-  where
-    none : (q n : ℕ) → getD {A = ℕ} (replicate n 0) q 0 ≡ 0
-    none q zero = refl
-    none zero (suc n) = refl
-    none (suc q) (suc n) = none q n
-
-module _ {words counts : List ℕ} {i : ℕ} (later : CountsFrom words counts i) where
-  -- the state before those is counted
-  module _ (more : 0 < i) where
-    abbrev here : ℕ
-    here = getD words (i - 1) 0 - 1
-
-    with-here : (q : ℕ) → occurrences q (states-of (drop (i - 1) words)) ≡ cond (eqb q here) 1 0 + getD counts q 0
-    unfolding states-of occurrences
-    with-here q =
-        let next : suc (i - 1) ≡ i = omega arith in
-        let split = drop-cons words (i - 1) 0 (omega (arith, later .within)) ∙ ap (λ (n : ℕ). getD words (i - 1) 0 ∷ drop n words) next in
-        rw (split, later .each q)
-
-    pub count-small : length words ≤ 4096 → getD counts here 0 ≤ 4096
-    count-small few =
-        rw (later .each here)
-        (omega (arith, occurrences-≤ here (states-of (drop i words)), length-states (drop i words), length-drop i words))
-
-    pub one-count : here < 64 → CountsFrom words (set counts here (getD counts here 0 + 1)) (i - 1)
-    one-count l = record {
-      within = omega (arith, later .within);
-      long = length-set counts here _ ∙ later .long;
-      each = λ q. go q (told (eqb q here));
-    }
-      where
-        go : (q : ℕ) → Told (eqb q here)
-            → getD (set counts here (getD counts here 0 + 1)) q 0 ≡ occurrences q (states-of (drop (i - 1) words))
-        go q (yea y) =
-            let e : q ≡ here = same q here y in
-            let put = getD-set-same counts here (getD counts here 0 + 1) 0 (omega (arith, later .long)) in
-            rw e (omega (arith, put, rw (eqb-yes {m = here} refl) at (with-here here)))
-        go q (nay n) = omega (arith, rw n at (with-here q), getD-set-other counts here q (getD counts here 0 + 1) 0 (eqb-no n))
-
-  pub all-counted : StateWords words → i ≤ 0 → Occurs counts (states-of words)
-  all-counted ok h =
-      let z : i ≡ 0 = omega arith in
-      record { long = later .long; each = rw z at (later .each); few = omega (arith, length-states words, ok .few) }
 
 -- ---- different states
 
@@ -129,9 +61,69 @@ among-cons [] x w = refl
 among-cons (q ∷ l) x w = omega (arith, ap {B = ℕ} (λ b. cond b 1 0) (eqb-like q x x q sym sym), among-cons l x w)
 
 -- different states occur no more often than there are children
-pub among-≤ : (l w : List ℕ) → Ascending l → among l w ≤ length w
+among-≤ : (l w : List ℕ) → Ascending l → among l w ≤ length w
 among-≤ l [] a = omega (arith, among-none l)
 among-≤ l (x ∷ w) a = omega (arith, among-cons l x w, ascending-once x l a, among-≤ l w a)
+
+-- ---- counting occurrences
+
+-- the counts are the occurrences from word i on
+pub record CountsFrom (words counts : List ℕ) (i : ℕ) : Type 0 where
+  pub within : i ≤ length words
+  pub long : length counts ≡ 64
+  pub each : (q : ℕ) → getD counts q 0 ≡ occurrences q (states-of (drop i words))
+
+pub length-states : (words : List ℕ) → length (states-of words) ≡ length words
+unfolding states-of
+length-states words = length-map words (λ x. x - 1)
+
+pub no-count : (words : List ℕ) → CountsFrom words (replicate 64 0) (length words)
+unfolding states-of occurrences
+no-count words = record { within = omega arith; long = refl; each = λ q. rw (drop-length words) (none q 64) }
+  where
+    none : (q n : ℕ) → getD {A = ℕ} (replicate n 0) q 0 ≡ 0
+    none q zero = refl
+    none zero (suc n) = refl
+    none (suc q) (suc n) = none q n
+
+module _ {words counts : List ℕ} {i : ℕ} (later : CountsFrom words counts i) where
+  -- the state before those is counted
+  module _ (more : 0 < i) where
+    abbrev here : ℕ
+    here = getD words (i - 1) 0 - 1
+
+    with-here : (q : ℕ) → occurrences q (states-of (drop (i - 1) words)) ≡ cond (eqb q here) 1 0 + getD counts q 0
+    unfolding states-of occurrences
+    with-here q =
+        let next : suc (i - 1) ≡ i = omega arith in
+        let split = drop-cons words (i - 1) 0 (omega (arith, later .within)) ∙ ap (λ (n : ℕ). getD words (i - 1) 0 ∷ drop n words) next in
+        rw (split, later .each q)
+
+    pub count-small : length words ≤ 4096 → getD counts here 0 ≤ 4096
+    unfolding among only
+    count-small few =
+        let most = among-≤ (here ∷ []) (states-of (drop i words)) (asc-only true here) in
+        omega (arith, later .each here, length-states (drop i words), length-drop i words)
+
+    pub one-count : here < 64 → CountsFrom words (set counts here (getD counts here 0 + 1)) (i - 1)
+    one-count l = record {
+      within = omega (arith, later .within);
+      long = length-set counts here _ ∙ later .long;
+      each = λ q. go q (told (eqb q here));
+    }
+      where
+        go : (q : ℕ) → Told (eqb q here)
+            → getD (set counts here (getD counts here 0 + 1)) q 0 ≡ occurrences q (states-of (drop (i - 1) words))
+        go q (yea y) =
+            let e : q ≡ here = same q here y in
+            let put = getD-set-same counts here (getD counts here 0 + 1) 0 (omega (arith, later .long)) in
+            rw e (omega (arith, put, rw (eqb-yes {m = here} refl) at (with-here here)))
+        go q (nay n) = omega (arith, rw n at (with-here q), getD-set-other counts here q (getD counts here 0 + 1) 0 (eqb-no n))
+
+  pub all-counted : StateWords words → i ≤ 0 → Occurs counts (states-of words)
+  all-counted ok h =
+      let z : i ≡ 0 = omega arith in
+      record { long = later .long; each = rw z at (later .each); few = omega (arith, length-states words, ok .few) }
 
 -- ---- sizes of signed numbers
 

@@ -43,8 +43,8 @@ has-append [] m q = refl
 has-append (x ∷ l) m q = ap (λ (b : Bool). eqb q x || b) (has-append l m q) ∙ sym (or-assoc (eqb q x) (has l q) (has m q))
 
 -- a child of node i, before those after it
-next-word : {tree : List ℕ} (states : List ℕ) (i : ℕ) {at z : ℕ} → Shaped tree (length states) → 4 * (i + size-at tree i) ≤ length tree → Sized tree at z
-    → at < i + size-at tree i
+next-word : {tree : List ℕ} (states : List ℕ) (i : ℕ) {at z : ℕ} → Shaped tree (length states) → 4 * (i + size-at tree i) ≤ length tree
+    → Sized tree at z → at < i + size-at tree i
     → words-between tree states at (i + size-at tree i) ≡ getD states at 0 ∷ words-between tree states (at + z) (i + size-at tree i)
 next-word {tree} states i {at} t within here inside = words-more states at (i + size-at tree i) t here inside (omega (arith, t .long))
 
@@ -95,32 +95,16 @@ module _ {tree states : List ℕ} {i room : ℕ} {words : List ℕ} {n at : ℕ}
           full = rw e (has-append (take n words) (x ∷ []) 0 ∙ rw (g .full, eqb-false (λ k. nz (sym k))));
         }
 
--- what was gathered, by its case
-pub all-gathered : {x : Children} {n : ℕ} (all words : List ℕ) → Gathered x all words → x ≡ Number n → (take n words ≡ all) ×
-    (n ≤ length words) × (has all 0 ≡ false)
-all-gathered all words g e = subst (λ y. Gathered y all words) e g
-
-pub none-gathered : {x : Children} (all words : List ℕ) → Gathered x all words → x ≡ Stateless → has all 0 ≡ true
-none-gathered all words g e = subst (λ y. Gathered y all words) e g
-
 -- ---- the children's state words
 
 -- they are among the words that stand there, and at most as many as the nodes
-words-small : (n k : ℕ) (xs : List Item) (st : List ℕ) → Small st → Small (child-words n k xs st)
+words-known : (n k : ℕ) (xs : List Item) (st : List ℕ) → Small st → Small (child-words n k xs st) × (length (child-words n k xs st) ≤ n)
 unfolding child-words
-words-small zero k xs st h = tt
-words-small (suc n) k [] st h = tt
-words-small (suc n) k (x ∷ xs) [] h = tt
-words-small (suc n) zero (x ∷ xs) (s ∷ st) (l, h) = (l, words-small n (x .size - 1) xs st h)
-words-small (suc n) (suc k) (x ∷ xs) (s ∷ st) (l, h) = words-small n k xs st h
-
-words-few : (n k : ℕ) (xs : List Item) (st : List ℕ) → length (child-words n k xs st) ≤ n
-unfolding child-words
-words-few zero k xs st = omega arith
-words-few (suc n) k [] st = omega arith
-words-few (suc n) k (x ∷ xs) [] = omega arith
-words-few (suc n) zero (x ∷ xs) (s ∷ st) = omega (arith, words-few n (x .size - 1) xs st)
-words-few (suc n) (suc k) (x ∷ xs) (s ∷ st) = omega (arith, words-few n k xs st)
+words-known zero k xs st h = (tt, omega arith)
+words-known (suc n) k [] st h = (tt, omega arith)
+words-known (suc n) k (x ∷ xs) [] h = (tt, omega arith)
+words-known (suc n) zero (x ∷ xs) (s ∷ st) (l, h) = let (small, few) = words-known n (x .size - 1) xs st h in ((l, small), omega arith)
+words-known (suc n) (suc k) (x ∷ xs) (s ∷ st) (l, h) = let (small, few) = words-known n k xs st h in (small, omega arith)
 
 -- a list of state words without 0
 each-word : (ws : List ℕ) → Small ws → has ws 0 ≡ false → (k : ℕ) → k < length ws → (1 ≤ getD ws k 0) × (getD ws k 0 ≤ 64)
@@ -196,7 +180,8 @@ module _ {s index : List ℕ} {at : At} {tree states words : List ℕ} (j : Judg
       → Finds (2 ^ 42) f (lone-states (getD states (i + 1) 0)) 0 → FindsInside R tree states i f
   unfolding inside-targets inside-looks content-targets child-states
   lone-inside {z = z} whole more child only f =
-      rw (next-word states i (j .shaped) end-within child (omega (arith, whole .is, whole .some)), words-done tree states (i + 1 + z) end (omega (arith, whole .is)))
+      let first = next-word states i (j .shaped) end-within child (omega (arith, whole .is, whole .some)) in
+      rw (first, words-done tree states (i + 1 + z) end (omega (arith, whole .is)))
       (go (getD states (i + 1) 0) f)
     where
       go : (word : ℕ) {f : Found} → Finds (2 ^ 42) f (lone-states word) 0
@@ -209,31 +194,35 @@ module _ {s index : List ℕ} {at : At} {tree states words : List ℕ} (j : Judg
   several-words several =
       let child = sized {i = i + 1} (j .shaped .sizes) (omega (arith, end-within)) refl in
       let next = sized {i = i + 1 + size-at tree (i + 1)} (j .shaped .sizes) (omega (arith, end-within)) refl in
-      rw (next-word states i (j .shaped) end-within child (omega arith), next-word states i (j .shaped) end-within next several) (λ e. absurd (omega arith))
+      rw (next-word states i (j .shaped) end-within child (omega arith), next-word states i (j .shaped) end-within next several)
+      (λ e. absurd (omega arith))
 
   module _ {children : Children} (left : List ℕ) (got : Gathered children (words-inside tree states i) left) where
     -- one of them has no state
     pub stateless-inside : children ≡ Stateless → FindsInside R tree states i (record { targets = 0; looks = 0 })
     unfolding inside-targets inside-looks
-    stateless-inside is = rw (states-none (words-inside tree states i) (none-gathered _ left got is)) nothing-found
+    stateless-inside is =
+        rw (states-none (words-inside tree states i) (subst (λ y. Gathered y (words-inside tree states i) left) is got)) nothing-found
 
     -- all of them have one
     module _ {n : ℕ} (is : children ≡ Number n) where
+      all : Gathered (Number n) (words-inside tree states i) left
+      all = subst (λ y. Gathered y (words-inside tree states i) left) is got
+
       pub gathered-within : n ≤ length left
-      gathered-within = all-gathered _ left got is .1
+      gathered-within = all .1
 
       pub gathered-words : Several tree i → StateWords (take n left) × (length (take n left) ≢ 1)
       gathered-words several =
-          let (same, _, full) = all-gathered _ left got is in
-          let small = words-small (end - (i + 1)) 0 (drop (i + 1) (items tree)) (drop (i + 1) states) (j .small) in
-          let few = words-few (end - (i + 1)) 0 (drop (i + 1) (items tree)) (drop (i + 1) states) in
+          let (same, _, full) = all in
+          let (small, few) = words-known (end - (i + 1)) 0 (drop (i + 1) (items tree)) (drop (i + 1) states) (j .small) in
           let each = each-word (words-inside tree states i) small full in
-          rw same (record { each = each; few = omega (arith, few, end-within, j .shaped .long, j .shaped .few) }, several-words several)
+          rw same (record { each = each; few = omega (arith, end-within, j .shaped .long, j .shaped .few) }, several-words several)
 
       pub several-inside : {f : Found} → FindsContent R (states-of (take n left)) f → FindsInside R tree states i f
       unfolding inside-targets inside-looks
       several-inside f =
-          let (same, _, full) = all-gathered _ left got is in
+          let (same, _, full) = all in
           rw (states-some (words-inside tree states i) full) (rw same at f)
 
 -- ---- a node, by what its symbol says

@@ -34,15 +34,6 @@ items-at (a ∷ b ∷ c ∷ d ∷ t) (suc i) h =
     let f : 4 * suc i + 1 ≡ suc (suc (suc (suc (4 * i + 1)))) = omega arith in
     rw (f, e, add-one (suc i)) (rw (add-one i) at (items-at t i (omega arith)))
 
-pub length-items : (n : ℕ) (t : List ℕ) → length t ≡ 4 * n → length (items t) ≡ n
-unfolding items
-length-items n [] h = omega arith
-length-items n (a ∷ []) h = absurd (omega arith)
-length-items n (a ∷ b ∷ []) h = absurd (omega arith)
-length-items n (a ∷ b ∷ c ∷ []) h = absurd (omega arith)
-length-items zero (a ∷ b ∷ c ∷ d ∷ t) h = absurd (omega arith)
-length-items (suc n) (a ∷ b ∷ c ∷ d ∷ t) h = ap suc (length-items n t (omega arith))
-
 -- each item has a symbol of a tag or a text and a size, and ends within the list
 abbrev Within : List Item → Type 0
 Within [] = Unit {0}
@@ -84,15 +75,17 @@ unfolding items
 tree-shaped {g} {t} {e} few p =
     let (w, o) = tree-passes g few t e .0 p in
     let long : length t ≡ 4 * size e = ap length w ∙ length-words e in
-    let all : Within (items t) = rw (append-nil (words e), ← w) at (within 32 e [] few (o .keeps) tt) in
+    let all : length (items t) ≡ size e + 0 = rw (append-nil (words e), ← w) at (items-more e []) in
+    let ranges : Within (items t) = rw (append-nil (words e), ← w) at (within 32 e [] few (o .keeps) tt) in
     record {
       long = long;
+      all = omega arith;
       few = o .few;
-      symbols = λ i h. (rw (items-at t i (omega arith)) at (within-drop i (items t) all)) .0;
+      symbols = λ i h. (rw (items-at t i (omega arith)) at (within-drop i (items t) ranges)) .0;
       sizes = record {
         each = λ i h.
-            let (_, a, b, _) = rw (items-at t i h) at (within-drop i (items t) all) in
-            (a, omega (arith, b, length-drop (i + 1) (items t), length-items (size e) t long));
+            let (_, a, b, _) = rw (items-at t i h) at (within-drop i (items t) ranges) in
+            (a, omega (arith, b, length-drop (i + 1) (items t)));
       };
     }
 

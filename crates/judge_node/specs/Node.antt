@@ -24,6 +24,7 @@ pub record Sized (tree : List ℕ) (i size : ℕ) : Type 0 where
 -- n nodes, each of them with a symbol of a tag or a text, and with a size
 pub record Shaped (tree : List ℕ) (n : ℕ) : Type 0 where
   pub long : length tree ≡ 4 * n
+  pub all : length (items tree) ≡ n
   pub few : n ≤ 4096
   pub symbols : (i : ℕ) → i < n → (1 ≤ symbol-at tree i) × (symbol-at tree i ≤ 66)
   pub sizes : Sizes tree

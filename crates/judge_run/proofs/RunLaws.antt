@@ -24,7 +24,7 @@ use Rattle.judge_rules.specs.declared.targets.Found.{Found}
 use Rattle.judge_contents.specs.Content.{FindsContent}
 use Rattle.judge_node.specs.Node.{Shaped, Small, node-targets, node-looks}
 use Rattle.judge_node.specs.Judging.{Judging, FindsNode}
-use Rattle.judge_node.proofs.NodeLaws.{items-at, length-items, tree-shaped, node-judged}
+use Rattle.judge_node.proofs.NodeLaws.{items-at, tree-shaped, node-judged}
 use Rattle.judge_states.specs.States.{Word, WordOf}
 use Rattle.judge_run.specs.Run.{Form, Ends, verdict-on, states-on}
 use Rattle.judge_run.specs.declared.Outcome.{Outcome}
@@ -64,13 +64,12 @@ pub running-none : (R : List Rule) {tree : List ℕ} (states : List ℕ) → Sha
     (length states) states 0
 unfolding run
 running-none R {tree} states t =
-    let e = length-items (length states) tree (t .long) in
     record {
       shaped = t;
       within = omega arith;
       long = refl;
       small = rw (drop-length states) tt;
-      so-far = rw (drop-of-length-le (items tree) {i = length states} (omega arith), drop-length states);
+      so-far = rw (drop-of-length-le (items tree) {i = length states} (omega (arith, t .all)), drop-length states);
       few = omega arith;
     }
 
@@ -113,7 +112,7 @@ module _ {R : List Rule} {tree : List ℕ} {n i : ℕ} {states : List ℕ} {look
     pub running-two : w ≡ 65 → run R (items tree) ≡ two-at (i - 1)
     running-two e =
         let z : i - 1 + 0 ≡ i - 1 = omega arith in
-        let within : i - 1 ≤ length (items tree) = omega (arith, length-items n tree (g .shaped .long), g .within) in
+        let within : i - 1 ≤ length (items tree) = omega (arith, g .shaped .all, g .within) in
         rw z at (two-decides R (i - 1) 0 (items tree) within
         (judged ∙ put-two (gist (node-targets R tree states (i - 1))) its-word e _ _ _))
 

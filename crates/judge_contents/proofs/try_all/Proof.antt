@@ -1,12 +1,10 @@
 -- `judge_contents::try_all` meets its contract: so far the set and the looks are those of the rules before the i-th, which is of content.
-use mathlib.Core.Path.{refl}
 use Prim.Native.Nat.{_-_}
 use borrow.Author.Needs.{needs}
 use Rattle.model.specs.Index.{rules-in}
 use Rattle.judge_order.specs.Order.{states-of}
 use Rattle.judge_rules.proofs.TargetLaws.{chain-nearer}
-use Rattle.judge_contents.proofs.ContentLaws.{look-fits, Trying, trying-begun, ends-some, next-content, next-counted, looks-fit}
-use Rattle.judge_contents.proofs.ContentLaws.{trying-more, trying-ended}
+use Rattle.judge_contents.proofs.ContentLaws.{Trying, trying-begun, ends-some, next-content, next-counted, trying-more, trying-ended}
 use Rattle.judge_contents.proofs.try_all.Statement.{statement}
 use Rattle.judge_contents.proofs.try_all.Tie as tie
 
@@ -39,16 +37,8 @@ try-all-spec =
     (λ c. search needs)
     (λ c. search needs)
     (λ c κs. search needs)
-    (λ c. search (look-fits, needs))
-    (λ c. search (looks-fit, needs))
+    (λ c. search needs)
+    (λ c. search needs)
     (λ c. search (chain-nearer, needs))
-    (λ c.
-    let tried = c .before .before .before in
-    let after = tried .before .before in
-    let here = after .before .before in
-    let loop = here .before .before .before in
-    let start = loop .before .before .before .before .before .before .before in
-    trying-more (start .pre .0) (loop .loop .inv) (here .before .before .loop-test .taken) refl
-    (here .entry-of .ensures .0) refl (after .entry-of2 .ensures .0)
-    (here .entry-of .ensures .1) (tried .try-rule .ensures) (c .before .with-if .ensures))
+    (λ c. search (trying-more, needs))
     (λ c. search (trying-ended, needs)))

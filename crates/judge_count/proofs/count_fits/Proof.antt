@@ -1,5 +1,4 @@
 -- `judge_count::count_fits` meets its contract.
-use mathlib.Core.Path.{refl}
 use Prim.Native.Nat.{_-_}
 use native.Mathlib.Omega.{arith}
 use borrow.Author.Needs.{needs}

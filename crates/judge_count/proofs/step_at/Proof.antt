@@ -1,22 +1,10 @@
 -- `judge_count::step_at` meets its contract: by its kind a step says what its words say, and it has one of the five kinds.
 use mathlib.Core.Bool.{_&&_, _||_}
-use Prim.Native.Nat.{_+_, _<_}
 use native.Mathlib.Omega.{arith}
-use lib.ListN.{length}
 use Rattle.judge_count.proofs.SumLaws.{marks-there}
 use Rattle.judge_count.proofs.StepLaws.{said, kind-there, sum-room, at-most-found, remainder-found, not-found, pair-found}
 use Rattle.judge_count.proofs.step_at.Statement.{statement}
 use Rattle.judge_count.proofs.step_at.Tie as tie
-
--- the words behind the kind stand in the part
-not-room : (c : tie.At-match-keys3) → c .before .before .before .before .args .at + 1 < length (c .before .before .before .before .args .part .now)
-not-room c = said 3 (c .match .keys3) (c .before .before .before .before .pre .0) .room
-
-and-room : (c : tie.At-match-keys4) → c .before .before .before .before .args .at + 2 < length (c .before .before .before .before .args .part .now)
-and-room c = said 4 (c .match .keys4) (c .before .before .before .before .pre .0) .room
-
-or-room : (c : tie.At-match-keys5) → c .before .before .before .before .args .at + 2 < length (c .before .before .before .before .args .part .now)
-or-room c = said 5 (c .match .keys5) (c .before .before .before .before .pre .0) .room
 
 pub step-at-spec : {M : Type 1} → statement M
 step-at-spec =
@@ -36,19 +24,19 @@ step-at-spec =
     let start = c .before .before .before .before .before in
     let a = said 2 (c .before .match .keys2) (start .pre .0) in
     sum-room (c .sum-at2 .ensures) (start .pre .1) (a .sum) (a .rest))
-    (λ c. omega (arith, not-room c))
-    (λ c κs. not-room c)
-    (λ c. omega (arith, not-room (c .before)))
-    (λ c. omega (arith, and-room c))
-    (λ c κs. omega (arith, and-room c))
-    (λ c. omega (arith, and-room (c .before)))
-    (λ c κs. and-room (c .before))
-    (λ c. omega (arith, and-room (c .before .before)))
-    (λ c. omega (arith, or-room c))
-    (λ c κs. omega (arith, or-room c))
-    (λ c. omega (arith, or-room (c .before)))
-    (λ c κs. or-room (c .before))
-    (λ c. omega (arith, or-room (c .before .before)))
+    (λ c. omega (arith, said 3 (c .match .keys3) (c .before .before .before .before .pre .0) .room))
+    (λ c κs. said 3 (c .match .keys3) (c .before .before .before .before .pre .0) .room)
+    (λ c. omega (arith, said 3 (c .before .match .keys3) (c .before .before .before .before .before .pre .0) .room))
+    (λ c. omega (arith, said 4 (c .match .keys4) (c .before .before .before .before .pre .0) .room))
+    (λ c κs. omega (arith, said 4 (c .match .keys4) (c .before .before .before .before .pre .0) .room))
+    (λ c. omega (arith, said 4 (c .before .match .keys4) (c .before .before .before .before .before .pre .0) .room))
+    (λ c κs. said 4 (c .before .match .keys4) (c .before .before .before .before .before .pre .0) .room)
+    (λ c. omega (arith, said 4 (c .before .before .match .keys4) (c .before .before .before .before .before .before .pre .0) .room))
+    (λ c. omega (arith, said 5 (c .match .keys5) (c .before .before .before .before .pre .0) .room))
+    (λ c κs. omega (arith, said 5 (c .match .keys5) (c .before .before .before .before .pre .0) .room))
+    (λ c. omega (arith, said 5 (c .before .match .keys5) (c .before .before .before .before .before .pre .0) .room))
+    (λ c κs. said 5 (c .before .match .keys5) (c .before .before .before .before .before .pre .0) .room)
+    (λ c. omega (arith, said 5 (c .before .before .match .keys5) (c .before .before .before .before .before .before .pre .0) .room))
     (λ c earlier t h w o. at-most-found (c .before .sum-at .ensures) o earlier (c .at-most .ensures)
     (said 1 (c .before .before .match .keys1) h))
     (λ c earlier t h w o.

@@ -1,6 +1,5 @@
 -- `judge_count::sum_at` meets its contract.
 use mathlib.Core.Path.{_≡_, _∙_}
-use Prim.Native.Nat.{_<_}
 use native.Mathlib.Omega.{arith}
 use borrow.Author.Needs.{needs}
 use lib.ListN.{length, getD}
@@ -8,7 +7,8 @@ use mir.Syntax.{w32}
 use mir.Val.{toZ, ofZ}
 use mir.Facts.{toZ-ofZ}
 use Rattle.model.specs.Sheet.{members, signed}
-use Rattle.judge_count.proofs.SumLaws.{SumLeft, marks-there, no-term, fewer-left, term-there, term-counted, term-room, one-term, all-terms}
+use Rattle.judge_count.proofs.SumLaws.{SumLeft, marks-there, no-term, fewer-left, term-there, term-counted, term-room, one-term}
+use Rattle.judge_count.proofs.SumLaws.{all-terms}
 use Rattle.judge_count.proofs.sum_at.Statement.{statement}
 use Rattle.judge_count.proofs.sum_at.Tie as tie
 

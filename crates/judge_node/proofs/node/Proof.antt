@@ -13,32 +13,12 @@ node-spec =
     (λ c. search needs)
     (λ c κs. search needs)
     (λ c. search needs)
-    (λ c κs.
-    let told = c .before .before .before in (
-      search needs,
-      text-kind (told .before .before .before .before .before .before .before .before .before .pre)
-          (told .symbol-of .ensures) (c .before .kind .given .1),
-    ))
+    (λ c κs. search (text-kind, needs))
     (λ c. search needs)
     (λ c κs. search needs)
-    (λ c κs.
-    let told = c .before .before .before .before .before .before .before in
-    let start = told .before .before .before .before .before .before .before .before .before in
-    let tag = c .before .before .before .before .before .tag .given .1 in
-    (search needs, tag-within (start .pre) (told .symbol-of .ensures) tag (c .before .before .inside .ensures)))
+    (λ c κs. search (tag-within, needs))
     (λ c. search needs)
-    (λ c.
-    let told = c .before .before .before .before in
-    text-found (told .before .before .before .before .before .before .before .before .before .pre)
-    (told .symbol-of .ensures) (c .before .before .kind .given .1)
-    (c .text-targets .ensures))
+    (λ c. search (text-found, needs))
     (λ c. search needs)
-    (λ c.
-    let told = c .before .before .before .before .before .before .before .before in
-    let start = told .before .before .before .before .before .before .before .before .before in
-    let tag = c .before .before .before .before .before .before .tag .given .1 in
-    element-found (start .pre) (told .symbol-of .ensures) tag (c .before .before .before .inside .ensures) (c .tagged .ensures))
-    (λ c.
-    let told = c .before .before in
-    absurd (some-symbol (told .before .before .before .before .before .before .before .before .before .pre)
-    (told .symbol-of .ensures) (c .enum-told .given .1))))
+    (λ c. search (element-found, needs))
+    (λ c. absurd (search (some-symbol, needs))))

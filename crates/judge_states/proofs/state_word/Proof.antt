@@ -9,14 +9,13 @@ pub state-word-spec : {M : Type 1} → statement M
 state-word-spec =
     tie.close
     (tie.spec
-    (λ c. word-none (c .if1 .taken))
+    (λ c. search (word-none, needs))
     (λ c κs. search needs)
-    (λ c. word-several (c .before .without-lowest .ensures) (search needs) (c .if2 .taken))
+    (λ c. search (word-several, needs))
     (λ c κs. search needs)
     (λ c. omega (
       arith,
       low-small (c .before .before .without-lowest .ensures) (search needs) (search needs)
           (c .before .before .before .if1 .left) (c .before .if2 .left) (c .lowest .ensures),
     ))
-    (λ c. word-one (c .before .before .without-lowest .ensures) (search needs) (search needs) (c .before .before .before .if1 .left)
-    (c .before .if2 .left) (c .lowest .ensures)))
+    (λ c. search (word-one, needs)))
