@@ -13,10 +13,19 @@ node-spec =
     (λ c. search needs)
     (λ c κs. search needs)
     (λ c. search needs)
-    (λ c κs. search (text-kind, needs))
+    (λ c κs.
+    let told = c .before .before .before in (
+      search needs,
+      text-kind (told .before .before .before .before .before .before .before .before .before .pre)
+          (told .symbol-of .ensures) (c .before .kind .given .1),
+    ))
     (λ c. search needs)
     (λ c κs. search needs)
-    (λ c κs. search (tag-within, needs))
+    (λ c κs.
+    let told = c .before .before .before .before .before .before .before in
+    let start = told .before .before .before .before .before .before .before .before .before in
+    let tag = c .before .before .before .before .before .tag .given .1 in
+    (search needs, tag-within (start .pre) (told .symbol-of .ensures) tag (c .before .before .inside .ensures)))
     (λ c. search needs)
     (λ c. search (text-found, needs))
     (λ c. search needs)

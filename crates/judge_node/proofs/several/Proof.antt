@@ -17,6 +17,10 @@ several-spec =
     (λ c. search (stateless-inside, needs))
     (λ c. search (gathered-within, needs))
     (λ c. sym (length-take-le _ _ (search (gathered-within, needs))))
-    (λ c κs. search (gathered-words, needs))
+    (λ c κs.
+    let told = c .before .before in
+    let got = told .before .before .before .before in
+    let start = got .before .before .before .before .before .before .before in
+    (start .pre .0 .rules, gathered-words (start .pre .0) _ (got .gather .ensures) (told .n .given .1) (start .pre .1)))
     (λ c. search needs)
     (λ c. search (several-inside, needs)))

@@ -1,8 +1,7 @@
 -- `judge_run::run` meets its contract: so far the nodes from i on have their state words.
-use mathlib.Core.Path.{_≡_, refl, ap, _∙_}
-use native.Mathlib.Omega.{arith}
+use mathlib.Core.Path.{_≡_, refl}
 use borrow.Author.Needs.{needs}
-use lib.ListN.{length, replicate}
+use lib.ListN.{length}
 use Rattle.model.specs.Index.{rules-in}
 use Rattle.judge_contents.proofs.ContentLaws.{no-words, nothing-found}
 use Rattle.judge_run.proofs.RunLaws.{Running, running-none, running-all, running-room, running-judging, running-two, running-more}
