@@ -1,7 +1,8 @@
 -- `judge_run::run` meets its contract: so far the nodes from i on have their state words.
-use mathlib.Core.Path.{_≡_, refl}
+use mathlib.Core.Path.{_≡_, refl, ap, _∙_}
+use native.Mathlib.Omega.{arith}
 use borrow.Author.Needs.{needs}
-use lib.ListN.{length}
+use lib.ListN.{length, replicate}
 use Rattle.model.specs.Index.{rules-in}
 use Rattle.judge_contents.proofs.ContentLaws.{no-words, nothing-found}
 use Rattle.judge_run.proofs.RunLaws.{Running, running-none, running-all, running-room, running-judging, running-two, running-more}
@@ -27,16 +28,36 @@ run-spec =
     (λ c κs. (search needs, no-words))
     (λ c. (search (running-none, needs), search needs))
     (λ c. search needs)
-    (λ c κs. search (running-judging, nothing-found, needs))
+    (λ c κs.
+    let loop = c .before .before .before in
+    let start = loop .before .before .before .before .before .before .before .before .before in
+    let nothing = nothing-found _ (loop .before .content .ensures) in
+    running-judging (loop .loop .inv .0) (c .before .before .loop-test .taken) (loop .before .before .before .count-rules .ensures) nothing
+    (omega (arith, start .pre .1 .1, loop .loop .inv .1)))
     (λ c κs. search needs)
     (λ c κs. search needs)
     (λ c. search needs)
     (λ c. search needs)
-    (λ c. search (running-two, needs))
+    (λ c.
+    let judged = c .before .before .before .before .before .before .before .before in
+    let loop = judged .before .before .before .before in
+    let word = c .before .before .before .before in
+    let taken = judged .before .before .before .loop-test .taken in
+    let two = running-two (loop .loop .inv .0) taken _ (judged .node .ensures) (word .before .state-word .ensures)
+    (word .if1 .taken) in
+    (two, c .before .before .clear .ensures ∙ ap (λ n. replicate n 0) (loop .loop .inv .0 .long)))
     (λ c κs. search (running-room, needs))
     (λ c. search needs)
     (λ c. search needs)
-    (λ c. (search (running-more, needs), search needs))
+    (λ c.
+    let judged = c .before .before .before .before .before .before .before .before .before in
+    let loop = judged .before .before .before .before in
+    let word = c .before .before .before .before .before in
+    let taken = judged .before .before .before .loop-test .taken in
+    let kept = c .before .before .before .keep .ensures in
+    let more = running-more (loop .loop .inv .0) taken _ (judged .node .ensures) (word .before .state-word .ensures)
+    (word .if1 .left) kept in
+    (more, judged .node .kept .1 .1 .1 .1 .1 .0 ∙ loop .loop .inv .1))
     (λ c. search needs)
     (λ c. search needs)
     (λ c. search (running-all, needs)))
