@@ -205,7 +205,6 @@ pub record StepsLeft (part counts : List ℕ) (steps set at i : ℕ) : Type 0 wh
   pub coded : CountPart part
   pub occur : Counts counts
   pub counted : steps ≡ getD part 0 0
-  pub within : i ≤ steps
   pub left : (h : CountPart part) (w : List ℕ) → Occurs counts w → (rest : List Step) × Rest part h w set at i rest
 
 -- the step in hand, and what its truth makes of the rest
@@ -275,7 +274,7 @@ module _ {part : List ℕ} (h : CountPart part) where
 
 pub no-step : {part counts : List ℕ} {steps : ℕ} → CountPart part → Counts counts → steps ≡ getD part 0 0
     → StepsLeft part counts steps 0 1 0
-no-step h k e = record { coded = h; occur = k; counted = e; within = omega arith; left = λ h w o. (h .steps, first-step h w) }
+no-step h k e = record { coded = h; occur = k; counted = e; left = λ h w o. (h .steps, first-step h w) }
 
 module _ {part counts : List ℕ} {steps set at i : ℕ} (left : StepsLeft part counts steps set at i) where
   pub few-steps : (1 ≤ steps) × (steps ≤ 32)
@@ -294,7 +293,6 @@ module _ {part counts : List ℕ} {steps set at i : ℕ} (left : StepsLeft part 
     coded = left .coded;
     occur = left .occur;
     counted = left .counted;
-    within = omega arith;
     left = λ h w o.
         let t = left .left h w o .1 in
         let n = now-step l h o in

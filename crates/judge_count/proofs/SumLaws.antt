@@ -187,15 +187,10 @@ signed-back (negsuc n) y =
     let e : W - 1 - (W - 1 - n) ≡ n = omega arith in
     rw (le-ltb (W - 1 - n) (2 ^ 31) (omega arith), e)
 
-small-32 : (z : ℤ) → Yes (small z) → Yes (signed-32 z)
+small-known : (z : ℤ) → Yes (small z) → Yes (signed-32 z) × (natAbs z ≤ 32768)
 unfolding small signed-32
-small-32 (pos n) y = let (_, l) = between-inv 1 32767 n y in lt-ltb n (2 ^ 31) (omega arith)
-small-32 (negsuc n) y = let l = ltb-true n 32768 y in lt-ltb n (2 ^ 31) (omega arith)
-
-small-size : (z : ℤ) → Yes (small z) → natAbs z ≤ 32768
-unfolding small
-small-size (pos n) y = let (_, l) = between-inv 1 32767 n y in omega arith
-small-size (negsuc n) y = let l = ltb-true n 32768 y in omega arith
+small-known (pos n) y = let (_, l) = between-inv 1 32767 n y in (lt-ltb n (2 ^ 31) (omega arith), omega arith)
+small-known (negsuc n) y = let l = ltb-true n 32768 y in (lt-ltb n (2 ^ 31) (omega arith), omega arith)
 
 -- ---- what is left of a sum
 
@@ -245,12 +240,7 @@ module _ {part : List ℕ} {from : ℕ} (h : SumFrom part from) where
 
 pub no-term : {part counts : List ℕ} {from r : ℕ} → SumFrom part from → Counts counts
     → r ≡ getD part from 0 + getD part (from + 1) 0 * W → SumLeft part counts from r (from + 2) (pos 0)
-no-term h k e = record {
-  fits = marks-stand h e .fits;
-  whole = h;
-  counted = k;
-  terms = λ h w o. (h .coefficients, first-terms h e (o .few));
-}
+no-term h k e = record { fits = marks-stand h e .fits; whole = h; counted = k; terms = λ h w o. (_, first-terms h e (o .few)) }
 
 -- ---- the next term
 
@@ -275,13 +265,13 @@ module _ {part : List ℕ} {end : ℕ} {all : List Coefficient} {w : List ℕ} {
       let z : _≡_ {A = List ℕ} [] (x ∷ xs) = sym (t .marked) ∙ e in
       absurd (let o : _≡_ {A = ℕ} 0 1 = cc in omega arith)
   next-term n (c ∷ cs) t =
-      let y : Yes (small (c .times)) = t .smalls c (List·Memᴰ·head refl) in
+      let (fits, size) = small-known (c .times) (t .smalls c (List·Memᴰ·head refl)) in
       let k : ℕ = occurrences (c .state) w in
-      let size : natAbs (c .times) * k ≤ 32768 * k = mul-le-mul-right k (small-size (c .times) y) in
+      let term : natAbs (c .times) * k ≤ 32768 * k = mul-le-mul-right k size in
       record {
         first = c;
         place = word-there (t .words);
-        times = ap signed (word-here (t .words)) ∙ signed-back (c .times) (small-32 (c .times) y);
+        times = ap signed (word-here (t .words)) ∙ signed-back (c .times) fits;
         state = rw (t .marked);
         below = members-set 64 set .below (c .state) (subst (λ l. c .state ∈ l) (sym (t .marked)) (List·Memᴰ·head refl));
         room = omega (arith, t .bounded);

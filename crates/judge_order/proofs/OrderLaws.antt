@@ -171,13 +171,11 @@ module _ {part : List ℕ} (h : OrderPart part) where
   accepting-stands e = words-stand (h .order .positions) (h .order .accepting) (h .in-range .few-positions) (h .in-range .accepting)
       (rw (h .coded) at e)
 
-  order-read : {set n accepting : ℕ} {b : Bool} {words : List ℕ} → Read (take (length part - 4) (drop 4 part)) words set n
-      → accepting ≡ getD part 1 0 + getD part 2 0 * W → b ≡ meets (members 64 set) (members 64 accepting)
-      → (b ≡ fits-order (some (h .order)) (states-of words)) × (n ≡ reads (some (h .order)) (states-of words))
-  unfolding fits-order reads
-  order-read r ea eb = (eb ∙ stands-meet (rw arcs-are at (r .last)) (accepting-stands ea), rw arcs-are at (r .count))
-
 pub order-says : {part words : List ℕ} {set n accepting : ℕ} {b : Bool} → Read (take (length part - 4) (drop 4 part)) words set n
     → accepting ≡ getD part 1 0 + getD part 2 0 * W → b ≡ meets (members 64 set) (members 64 accepting) → OrderSays part
     (states-of words) b n
-order-says r ea eb = record { fitting = λ h. order-read h r ea eb .0; reading = λ h. order-read h r ea eb .1 }
+unfolding fits-order reads
+order-says r ea eb = record {
+  fitting = λ h. eb ∙ stands-meet (rw (arcs-are h) at (r .last)) (accepting-stands h ea);
+  reading = λ h. rw (arcs-are h) at (r .count);
+}

@@ -14,16 +14,37 @@ judge-spec =
     (tie.spec
     (λ c κs. search needs)
     (λ c. search needs)
-    (λ c. search (sheet-refused, needs))
+    (λ c. sheet-refused _ _ _ (c .before .before .before .index2 .ensures .0) (c .before .refusal .given .1))
     (λ c. search needs)
     (λ c κs. search needs)
     (λ c κs. search needs)
     (λ c. search needs)
     (λ c. search needs)
-    (λ c. search (room-refused, sheet-indexed, tree-counted, needs))
+    (λ c.
+    let check = c .before .before .before .before in
+    let index = check .before .before .before .before in
+    let h = sheet-indexed _ _ (index .index2 .ensures .0) (index .index2 .ensures .1) (check .before .before .enum-told .given .1) in
+    let form = tree-counted _ h (check .before .at .ensures) (check .check .ensures) (c .before .before .n .given .1) in
+    room-refused _ _ _ h form (c .if1 .taken))
     (λ c. search needs)
     (λ c. sym (length-take-le _ _ (c .before .before .if1 .left)))
-    (λ c κs. search (sheet-indexed, front-form, tree-counted, needs))
-    (λ c. search (tree-refused, sheet-indexed, needs))
+    (λ c κs.
+    let check = c .before .before .before .before .before .before in
+    let index = check .before .before .before .before in
+    let h = sheet-indexed _ _ (index .index2 .ensures .0) (index .index2 .ensures .1) (check .before .before .enum-told .given .1) in
+    let form = tree-counted _ h (check .before .at .ensures) (check .check .ensures) (c .before .before .before .before .n .given .1) in
+    (h, front-form _ form (c .before .before .if1 .left)))
+    (λ c.
+    let check = c .before .before .before in
+    let index = check .before .before .before .before in
+    let h = sheet-indexed _ _ (index .index2 .ensures .0) (index .index2 .ensures .1) (check .before .before .enum-told .given .1) in
+    tree-refused _ _ _ h (check .before .at .ensures) (check .check .ensures) (c .before .refusal2 .given .1))
     (λ c. search needs)
-    (λ c. search (nodes-judged, sheet-indexed, tree-counted, needs)))
+    (λ c.
+    let nodes = c .before .before in
+    let left = nodes .before .before .before in
+    let check = left .before .before .before .before in
+    let index = check .before .before .before .before in
+    let h = sheet-indexed _ _ (index .index2 .ensures .0) (index .index2 .ensures .1) (check .before .before .enum-told .given .1) in
+    let form = tree-counted _ h (check .before .at .ensures) (check .check .ensures) (left .before .before .n .given .1) in
+    nodes-judged _ _ _ h form (left .if1 .left) (nodes .judge-nodes .ensures .0) (nodes .judge-nodes .ensures .1)))
