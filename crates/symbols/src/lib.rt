@@ -21,10 +21,16 @@ pub enum Symbol {
 pub fn symbol_of(word: u32) -> Symbol
     ensures { λ r. ⌜ meaning r ≡ symbol-of word ⌝ }
 {
+    // most symbols are tags of lists of at most 64 names
+    if word < INTEGER_TEXT {
+        if word == 0 {
+            return Symbol::Nothing;
+        }
+        return Symbol::Tag(word);
+    }
     match word {
         INTEGER_TEXT => Symbol::Text(1),
         OTHER_TEXT => Symbol::Text(2),
-        0 => Symbol::Nothing,
         _ => Symbol::Tag(word),
     }
 }

@@ -7,9 +7,10 @@ use Prim.Native.Nat.{ℕ, suc, _+_, _-_, _*_, _≤_, _<_}
 use native.Mathlib.Nat.{add-zero}
 use native.Mathlib.Numerals.{add-one}
 use native.Mathlib.Omega.{arith}
+use borrow.Author.Tests.{ne-eqb}
 use lib.Dec.{eqb}
 use lib.ListN.{length}
-use Rattle.model.specs.Answers.{passes, refuses, _>>_}
+use Rattle.model.specs.Answers.{passes, refuses, _>>_, _>>=_}
 use Rattle.model.specs.Names.{names-of}
 use Rattle.model.specs.Tree.{Span, Element, text, tag, Document, ε, _·_, size, sizeD, nodes, nodesD, symbol-at, size-at, span-at, of-tag}
 use Rattle.model.specs.Tree.{symbol-of, children}
@@ -20,16 +21,14 @@ use Rattle.model.proofs.TreeLaws.{length-nodesD}
 use Rattle.offsets.specs.Lines.{Indexed}
 use Rattle.write_nodes.specs.Nodes.{node-at, TagOf}
 use Rattle.write_nodes.proofs.FirstLaws.{First, a-text, an-element, first, some-size}
-use Rattle.write_texts.specs.TextWords.{good-by, good-node}
-use Rattle.write_measure.specs.Lengths.{own-bytes, measured}
+use Rattle.write_measure.specs.Lengths.{own-by, own-bytes, added, measured}
+use Rattle.write_measure.specs.declared.Own.the-variants.{Bytes, Wrong}
 use Rattle.write_measure.proofs.LengthLaws.{own, total}
-use Rattle.write_measure.proofs.NodeLaws.{own-text, own-empty, own-pair}
 
 module _ (list starts source tree : List ℕ) where
   -- node i is the element e
   pub record Is (i : ℕ) (e : Element) : Type 0 where
-    pub good : good-node source (node-at tree i) ≡ good-words source e
-    pub adds : own-bytes list (node-at tree i) ≡ own list e
+    pub adds : own-bytes list source (node-at tree i) ≡ cond (good-words source e) (Bytes (own list e)) Wrong
     pub named : TagOf list starts (symbol-at tree i)
 
   -- the nodes from node i on are these elements
@@ -43,10 +42,11 @@ module _ (list starts source tree : List ℕ) where
 
   -- what an element adds, by its size
   adds-element : (i : ℕ) (c : Document) → symbol-of (symbol-at tree i) ≡ of-tag (symbol-at tree i) → size-at tree i ≡ suc (sizeD c)
-      → own-bytes list (node-at tree i) ≡ own list (tag (symbol-at tree i) (span-at tree i) c)
-  unfolding own size
-  adds-element i ε h z = own-empty list (node-at tree i) h z
-  adds-element i (e · c) h z = own-pair list (node-at tree i) h (λ q. omega (arith, some-size e))
+      → let e = tag (symbol-at tree i) (span-at tree i) c in
+      own-bytes list source (node-at tree i) ≡ cond (good-words source e) (Bytes (own list e)) Wrong
+  unfolding own size own-bytes own-by good-words
+  adds-element i ε h z = rw (h, z)
+  adds-element i (e · c) h z = rw (h, ne-eqb (size-at tree i) 1 (λ q. omega (arith, some-size e)))
 
   module _ (tags : ℕ) (names : names-of list ≡ passes tags) (index : Indexed list starts) where
     -- a document is listed where it was read
@@ -56,19 +56,17 @@ module _ (list starts source tree : List ℕ) where
 
     text-listed : {levels i end k : ℕ} {w : Span} {d : Document} → 4 * end ≤ length tree → First tree tags levels i end
         (text k w · d) → Read d → Listed i (text k w ∷ nodesD d)
-    unfolding own good-node good-by good-words
+    unfolding own own-bytes own-by good-words
     text-listed {levels} {i} {end} b (a-text lt s read) rest = (
-      record { good = rw s; adds = own-text list _ s; named = λ a h. absurd (text≢tag (sym s ∙ h)) },
+      record { adds = rw s; named = λ a h. absurd (text≢tag (sym s ∙ h)) },
       rest levels (i + 1) end true b read,
     )
 
     element-listed : {levels i end a : ℕ} {w : Span} {c d : Document} → 4 * end ≤ length tree → First tree tags levels i end
         (tag a w c · d) → Read c → Read d
         → Listed i (tag a w c ∷ (nodesD c ++ nodesD d))
-    unfolding good-node good-by good-words
     element-listed {levels} {i} {end} {c = c} {d} b (an-element s few l z le inside after) content rest = (
       record {
-        good = rw s;
         adds = adds-element i c s z;
         named = λ a h. let (is, some, _) = tag-said _ h in record
             { tags = tags; names = names; index = index; some = some; few = omega arith };
@@ -95,9 +93,9 @@ module _ (list starts source tree : List ℕ) where
 
   pub measured-listed : (es : List Element) (i sum : ℕ) → Listed i es → measured list source tree (length es) i sum ≡
       (texts-checked source i es >> passes (sum + total list es))
-  unfolding measured texts-checked total _>>_
+  unfolding measured added texts-checked total _>>_ _>>=_
   measured-listed [] i sum h = rw add-zero
-  measured-listed (e ∷ es) i sum h = rw (h .0 .good, h .0 .adds)
+  measured-listed (e ∷ es) i sum h = rw (h .0 .adds)
       (go (good-words source e) (measured-listed es (i + 1) (sum + own list e) (h .1)))
     where
       sums : sum + own list e + total list es ≡ sum + (own list e + total list es)
@@ -105,7 +103,7 @@ module _ (list starts source tree : List ℕ) where
 
       go : (b : Bool) → measured list source tree (length es) (i + 1) (sum + own list e) ≡
           (texts-checked source (i + 1) es >> passes (sum + own list e + total list es))
-          → cond b (measured list source tree (length es) (i + 1) (sum + own list e)) (refuses 11 i)
+          → (added i sum (cond b (Bytes (own list e)) Wrong) >>= measured list source tree (length es) (i + 1))
           ≡ (cond b (texts-checked source (suc i) es) (refuses 11 i) >> passes (sum + (own list e + total list es)))
       go true r = r ∙ rw (add-one i, sums)
       go false r = refl

@@ -8,34 +8,51 @@ use write_nodes::Node;
 use write_nodes::PerName;
 use write_nodes::name_of;
 use write_nodes::node_at;
-use write_texts::good_words;
+use write_texts::good_text;
 ghost use mathlib.Core.Path.{_≡_};
 ghost use Prim.Native.Nat.{_/_};
 ghost use lib.ListN.{length};
 ghost use Rattle.model.specs.Answers.{said, answer-of};
 ghost use Rattle.write_nodes.specs.Nodes.{TagOf};
-ghost use Rattle.write_measure.specs.Lengths.{own-bytes, measured, Tags};
+ghost use Rattle.write_measure.specs.Lengths.{own-bytes, Small, measured, Tags};
 
 // the bytes of <name/>, and of <name> and </name>, beside the name's
 const EMPTY_MARKS: usize = 3;
 
 const PAIR_MARKS: usize = 5;
 
-// The bytes of the form that are a node's own: its tags, or its text.
-fn own_bytes(list: &[u8], starts: &PerName, node: Node) -> usize
+// What a node adds to the form.
+enum Own {
+    // the bytes of its tags, or of its text
+    Bytes(usize),
+    // nothing: its text words are wrong
+    Wrong,
+}
+
+// What a node adds to the form. The text words of a tag are 0, those of a text give a trimmed text of its kind.
+fn own_bytes(list: &[u8], starts: &PerName, text: &[u8], node: Node) -> Own
     requires { ⌜ TagOf (now list) (now starts) (node .symbol) ⌝ }
-    ensures { λ r. ⌜ r ≡ own-bytes (now (list .entry)) node ⌝ }
+    ensures is { λ r. ⌜ r ≡ own-bytes (now (list .entry)) (now (text .entry)) node ⌝ }
+    ensures small { λ r. ⌜ Small r ⌝ }
 {
     match symbol_of(node.symbol) {
         Symbol::Tag(tag) => {
+            if !((node.start == 0) & (node.bytes == 0)) {
+                return Own::Wrong;
+            }
             let name = name_of(list, starts, tag);
             if node.size != 1 {
-                return PAIR_MARKS + 2 * name.len();
+                return Own::Bytes(PAIR_MARKS + 2 * name.len());
             }
-            EMPTY_MARKS + name.len()
+            Own::Bytes(EMPTY_MARKS + name.len())
         }
-        Symbol::Text(_) => node.bytes as usize,
-        Symbol::Nothing => 0,
+        Symbol::Text(kind) => {
+            if !good_text(text, node, kind) {
+                return Own::Wrong;
+            }
+            Own::Bytes(node.bytes as usize)
+        }
+        Symbol::Nothing => Own::Wrong,
     }
 }
 
@@ -49,12 +66,15 @@ pub fn measure(list: &[u8], starts: &PerName, text: &[u8], tree: &[u32]) -> Answ
     let mut bytes = 0;
     let mut i = 0;
     while i < nodes {
-        let node = node_at(tree, i);
-        if !good_words(text, node) {
-            return Answer::Error(Refusal::TextWords(i));
+        match own_bytes(list, starts, text, node_at(tree, i)) {
+            Own::Bytes(own) => {
+                bytes += own;
+                i += 1;
+            }
+            Own::Wrong => {
+                return Answer::Error(Refusal::TextWords(i));
+            }
         }
-        bytes += own_bytes(list, starts, node);
-        i += 1;
     }
     Answer::Count(bytes)
 }

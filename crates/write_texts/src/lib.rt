@@ -1,11 +1,8 @@
 // Refusal 11: text words that are wrong.
-use symbols::Symbol;
-use symbols::symbol_of;
 use write_nodes::Node;
 ghost use mathlib.Core.Path.{_≡_};
 ghost use Rattle.model.specs.Written.{trimmed-text, good-text};
 ghost use Rattle.write_nodes.specs.Nodes.{span-of};
-ghost use Rattle.write_texts.specs.TextWords.{good-node};
 
 // Whether bytes are a text that is trimmed at both ends.
 fn trimmed(s: &[u8]) -> bool
@@ -27,19 +24,8 @@ fn trimmed(s: &[u8]) -> bool
     good
 }
 
-// Whether the text words of a node are right: 0 at a tag, else those of a trimmed text of the node's kind.
-pub fn good_words(text: &[u8], node: Node) -> bool
-    ensures { λ r. ⌜ r ≡ good-node (now (text .entry)) node ⌝ }
-{
-    match symbol_of(node.symbol) {
-        Symbol::Tag(_) => (node.start == 0) & (node.bytes == 0),
-        Symbol::Text(kind) => good_text(text, node, kind),
-        Symbol::Nothing => false,
-    }
-}
-
 // Whether the text words of a node are those of a trimmed text of a kind.
-fn good_text(text: &[u8], node: Node, kind: u32) -> bool
+pub fn good_text(text: &[u8], node: Node, kind: u32) -> bool
     ensures { λ r. ⌜ r ≡ good-text (now (text .entry)) kind (span-of node) ⌝ }
 {
     // a true sum: 64 bits hold that of two words

@@ -10,7 +10,8 @@ unfolding symbol-of
 symbol-of-spec =
     tie.close
     (tie.spec
+    (λ c. rw (c .if2 .taken))
+    (λ c. let w = c .before .before .args .word in rw (ne-eqb w 65 (omega arith), ne-eqb w 66 (omega arith), ne-eqb w 0 (omega arith)))
     (λ c. rw (c .match .keys1))
     (λ c. rw (c .match .keys2))
-    (λ c. rw (c .match .keys3))
-    (λ c. let w = c .before .args .word in rw (ne-eqb w 65 (omega arith), ne-eqb w 66 (omega arith), ne-eqb w 0 (omega arith))))
+    (λ c. let w = c .before .before .args .word in rw (ne-eqb w 65 (omega arith), ne-eqb w 66 (omega arith), ne-eqb w 0 (omega arith))))

@@ -5,9 +5,8 @@ use native.Mathlib.Nat.{sub-zero}
 use native.Mathlib.Omega.{arith}
 use borrow.Author.Needs.{needs}
 use lib.ListN.{length}
-use Rattle.write_nodes.proofs.TagLaws.{tag-short}
 use Rattle.write_measure.specs.Lengths.{measured}
-use Rattle.write_measure.proofs.NodeLaws.{own-bound, measured-end, measured-next, measured-stop, node-tag}
+use Rattle.write_measure.proofs.NodeLaws.{own-small, measured-end, measured-next, measured-stop, node-tag}
 use Rattle.write_measure.proofs.measure.Statement.{statement}
 use Rattle.write_measure.proofs.measure.Tie as tie
 
@@ -19,16 +18,8 @@ abbrev μ-loop : tie.MeasureT-loop
 μ-loop list starts text tree nodes bytes₀ i₀ bytes i = nodes - i
 
 -- a node adds less than 2³² bytes
-below : (c : tie.After-own-bytes Inv-loop μ-loop) → c .own-bytes .result < 4294967296
-below c =
-    let tag = node-tag (c .before .before .before .before .before .before .before .before .before .pre)
-    (c .before .before .before .before .loop-test .taken) (c .before .before .before .node-at .ensures) in
-    omega (
-      arith,
-      c .own-bytes .ensures,
-      own-bound (c .before .before .before .before .before .before .before .before .before .args .list .now)
-          (c .before .before .before .node-at .result) (omega arith) (λ a h. tag-short (tag a h)),
-    )
+below : (c : tie.After-known-told Inv-loop μ-loop) → c .before .own .given .0 .0 < 4294967296
+below c = own-small (c .before .before .before .own-bytes .ensures .1) (c .before .own .given .1)
 
 pub measure-spec : {M : Type 1} → statement M
 measure-spec =
@@ -38,11 +29,12 @@ measure-spec =
     μ-loop
     (λ c. (search needs, search needs, rw sub-zero))
     (λ c κs. search needs)
-    (λ c κs. search needs)
-    (λ c. search (measured-stop, needs))
     (λ c κs. search (node-tag, needs))
-    (λ c. omega (arith, below c, c .before .before .before .before .before .before .before .before .before .pre .few))
+    (λ c. search needs)
+    (λ c. omega (arith, below c, c .before .before .before .before .before .before .before .before .before .before .pre .few))
     (λ c. search needs)
     (λ c. search needs)
     (λ c. (search needs, omega (arith, below c), search (measured-next, needs)))
+    (λ c. search needs)
+    (λ c. search (measured-stop, needs))
     (λ c. search (measured-end, needs)))
