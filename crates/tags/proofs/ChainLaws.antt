@@ -1,11 +1,12 @@
 -- Chains of tags: the bucket of a name, and the way along a chain.
 use mathlib.Core.Path.{_≡_, refl, sym, ap, _∙_}
 use mathlib.Core.Logic.{_≢_}
-use mathlib.Core.Bool.{Bool, true, false}
+use mathlib.Core.Bool.{Bool, true, false, cond}
 use mathlib.Core.List.{List, [], _∷_}
 use Prim.Native.Nat.{ℕ, zero, suc, _+_, _-_, _*_, _%_, _≤_, _<_}
 use native.Mathlib.Omega.{arith}
 use native.Mathlib.Decide.{ℕ-discrete}
+use borrow.Author.Tests.{eq-eqb, ne-eqb}
 use lib.ListN.{length, getD}
 use Rattle.model.specs.Answers.{passes}
 use Rattle.model.specs.Bytes.{same-bytes}
@@ -13,8 +14,8 @@ use Rattle.model.specs.Names.{name-of, tag-of, names-of}
 use Rattle.model.proofs.Tests.{never}
 use Rattle.model.proofs.NameLaws.{same-bytes-refl, bytes-same, tag-of-name, tag-some, tag-few, name-of-tag}
 use Rattle.offsets.specs.Lines.{line-count}
-use Rattle.tags.specs.Tables.{first-of, next-of, no-tag, name-by, bucket, along, found-by, Last, TableOf}
-use Rattle.tags.proofs.TagLaws.{tag-is, name-is}
+use Rattle.tags.specs.Tables.{first-of, next-of, name-by, bucket, along, found-by, Last, TableOf}
+use Rattle.tags.proofs.TagLaws.{name-is}
 
 -- ---- buckets
 
@@ -34,31 +35,44 @@ bucket-some name e = rw e
 
 -- ---- along a chain
 
--- what a comparison tells of bytes, told by their equal
-pub compared : {part own : List ℕ}
-    (name : List ℕ) {flag b : Bool} → part ≡ own → flag ≡ same-bytes part name → flag ≡ b → same-bytes own name ≡ b
-compared name e f g = cc
-
--- what is left of the way, with n tags to go, from tag t on
-module _ (list table name : List ℕ) (n t : ℕ) where
-  pub along-none : n ≤ 0 → along list table name n t ≡ 0
+module _ (list table name : List ℕ) where
+  pub along-past : (n t : ℕ) → n < t → 0 ≡ along list table name n t
   unfolding along
-  along-none h = let e : n ≡ 0 = omega arith in rw e
+  along-past zero t h = refl
+  along-past (suc n) t h = rw (ne-eqb t (suc n) (λ e. omega arith)) (along-past n t (omega arith))
 
-  module _ (some : 0 < n) where
-    pub along-end : no-tag t ≡ true → along list table name n t ≡ 0
+  pub along-from : (n t : ℕ) → t ≤ n → along list table name n t ≡ along list table name t t
+  unfolding along
+  along-from zero t h = let z : t ≡ 0 = omega arith in rw z
+  along-from (suc n) t h = by (ℕ-discrete t (suc n)) (along-from n t)
+    where
+      by : Dec (t ≡ suc n) → (t ≤ n → along list table name n t ≡ along list table name t t)
+          → along list table name (suc n) t ≡ along list table name t t
+      by (yes e) ih = rw e
+      by (no e) ih = rw (ne-eqb t (suc n) e) (ih (omega arith))
+
+  -- the way from tag t on finds what the whole way finds
+  module _ {all t : ℕ} (left : all ≡ along list table name t t) where
+    pub along-end : t ≡ 0 → 0 ≡ all
     unfolding along
-    along-end e = let m : n ≡ suc (n - 1) = omega arith in rw (m, e)
+    along-end z = sym (left ∙ rw z)
 
-    module _ (tag : no-tag t ≡ false) where
-      pub along-here : same-bytes (name-by list table t) name ≡ true → along list table name n t ≡ t
+    -- `part` is the name of tag t, and `same` tells whether it is the name
+    module _ (some : t ≢ 0) {part : List ℕ} (is : part ≡ name-by list table t) {same : Bool} (e : same ≡ same-bytes part name) where
+      look : all ≡ cond same t (along list table name (t - 1) (next-of table t))
       unfolding along
-      along-here e = let m : n ≡ suc (n - 1) = omega arith in rw (m, tag, e)
+      look =
+          let m : t ≡ suc (t - 1) = omega arith in
+          left ∙ ap (λ (k : ℕ). along list table name k t) m ∙ rw (eq-eqb t (suc (t - 1)) m, ← is, ← e)
 
-      pub along-on : same-bytes (name-by list table t) name ≡ false → along list table name n t ≡ along list table name
-          (n - 1) (next-of table t)
-      unfolding along
-      along-on e = let m : n ≡ suc (n - 1) = omega arith in ap (λ (k : ℕ). along list table name k t) m ∙ rw (tag, e)
+      pub along-here : same ≡ true → t ≡ all
+      along-here g = sym (look ∙ rw g)
+
+      pub along-stop : same ≡ false → t ≤ next-of table t → 0 ≡ all
+      along-stop g h = along-past (t - 1) (next-of table t) (omega arith) ∙ sym (look ∙ rw g)
+
+      pub along-on : same ≡ false → next-of table t < t → all ≡ along list table name (next-of table t) (next-of table t)
+      along-on g h = look ∙ rw g (along-from (t - 1) (next-of table t) (omega arith))
 
 -- r is a tag up to tag a with the name, or 0 where there is none
 pub record Found (list name : List ℕ) (a r : ℕ) : Type 0 where
@@ -93,29 +107,26 @@ module _ {list table : List ℕ} {a : ℕ} (made : TableOf list table a) (listed
     none = λ _ b p q g. absurd (omega (arith, h .ahead b p q g));
   }
 
-  -- the way along a chain ends at 0, each tag being smaller than the one before
   walked : (n t : ℕ) → t ≤ n → Ahead list name a t → Found list name a (along list table name n t)
-  walked zero t i h = rw (along-none list table name zero t (omega arith)) (found-none t h (omega arith))
-  walked (suc n) t i h = by (ℕ-discrete t 0) (walked n)
+  unfolding along
+  walked zero t i h = found-none t h (omega arith)
+  walked (suc n) t i h = by (ℕ-discrete t (suc n)) (walked n)
     where
       Is : Type 0
       Is = Found list name a (along list table name (suc n) t)
 
-      by : Dec (t ≡ 0) → ((u : ℕ) → u ≤ n → Ahead list name a u → Found list name a (along list table name n u)) → Is
-      by (yes z) ih = rw (along-end list table name (suc n) t (omega arith) (rw z)) (found-none t h z)
-      by (no z) ih = look (same-bytes (name-by list table t) name) refl
+      by : Dec (t ≡ suc n) → ((u : ℕ) → u ≤ n → Ahead list name a u → Found list name a (along list table name n u)) → Is
+      by (no e) ih = rw (ne-eqb t (suc n) e) (ih t (omega arith) h)
+      by (yes e) ih = look (same-bytes (name-by list table t) name) refl
         where
-          tag : no-tag t ≡ false
-          tag = tag-is t (omega arith) (omega (arith, h .few))
-
           own : name-by list table t ≡ name-of list t
           own = name-is list table t (made .index) (omega arith) (omega (arith, h .few))
 
           look : (b : Bool) → same-bytes (name-by list table t) name ≡ b → Is
-          look true e = rw (along-here list table name (suc n) t (omega arith) tag e)
-              (record { few = h .few; named = λ _. sym own ∙ bytes-same _ _ e; none = λ z′. absurd (z z′) })
-          look false e = let m : suc n - 1 ≡ n = omega arith in rw (along-on list table name (suc n) t (omega arith) tag e, m)
-              (ih _ (omega (arith, made .next t (omega arith) (h .few) .few)) (ahead-next t h z (rw own at e)))
+          look true g = rw (eq-eqb t (suc n) e, g)
+              (record { few = h .few; named = λ _. sym own ∙ bytes-same _ _ g; none = λ z. absurd (omega arith) })
+          look false g = rw (eq-eqb t (suc n) e, g)
+              (ih _ (omega (arith, made .next t (omega arith) (h .few) .few)) (ahead-next t h (λ z. omega arith) (rw own at g)))
 
   -- a name's chain has its tag
   pub found : {h r : ℕ} → h ≡ bucket name → h < 64 → r ≡ along list table name 64 (first-of table h) → Found list name a r

@@ -29,12 +29,12 @@ name-by list table a = cond (no-tag a) [] (bare (take (getD table a 0 - getD tab
 unfoldable pub bucket : List ℕ → ℕ
 bucket name = (getD name 0 0 + 9 * getD name (length name - 2) 0 + getD name (length name - 1) 0) % 64
 
--- along a chain from tag t on, n tags far: the first tag with the name, 0 where there is none. A number that is no tag ends the chain.
+-- along a chain from tag t on, over tags n to 1, each smaller than the one before: the first with the name, 0 where there is none
 unfoldable pub along : (list table name : List ℕ) → (n t : ℕ) → ℕ
 along list table name zero t = 0
 along list table name (suc n) t =
-    let more = along list table name n (next-of table t) in
-    cond (no-tag t) 0 (cond (same-bytes (name-by list table t) name) t more)
+    let here = cond (same-bytes (name-by list table t) name) t (along list table name n (next-of table t)) in
+    cond (eqb t (suc n)) here (along list table name n t)
 
 abbrev pub found-by : (list table name : List ℕ) → ℕ
 found-by list table name = along list table name 64 (first-of table (bucket name))

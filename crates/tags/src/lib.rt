@@ -57,21 +57,23 @@ pub fn find(list: &[u8], table: &Table, name: &[u8]) -> usize
     find_chained(list, table, table[AT_FIRSTS + bucket(name)], name)
 }
 
-// The tag of a name in a chain that begins with tag `first`, 0 where none of its tags, at most 64, has the name.
+// The tag of a name in a chain that begins with tag `first`, 0 where none of its tags has the name. A chain goes on to a smaller tag.
 pub fn find_chained(list: &[u8], table: &Table, first: usize, name: &[u8]) -> usize
     ensures { λ r. ⌜ r ≡ along (now (list .entry)) (now (table .entry)) (now (name .entry)) 64 first ⌝ }
 {
+    if MOST_NAMES < first {
+        return 0;
+    }
     let mut tag = first;
-    let mut left = MOST_NAMES;
-    while 0 < left {
-        if (tag == 0) | (MOST_NAMES < tag) {
-            return 0;
-        }
+    while tag != 0 {
         if offsets::same_bytes(name_of(list, table, tag), name) {
             return tag;
         }
-        tag = table[AT_NEXTS + tag];
-        left -= 1;
+        let next = table[AT_NEXTS + tag];
+        if tag <= next {
+            return 0;
+        }
+        tag = next;
     }
     0
 }
