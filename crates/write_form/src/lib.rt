@@ -58,7 +58,7 @@ pub fn put_children(
                 i = next;
             }
         } else {
-            o = put_text(out, o, text, node);
+            o = put_text(out, o, text, node_at(tree, i));
             i += 1;
         }
     }

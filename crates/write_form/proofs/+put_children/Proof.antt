@@ -1,4 +1,5 @@
 -- `write_form::put_children` meets its contract. The measure is the remaining depth; the loop's invariant is `Loop`.
+use mathlib.Core.Path.{_≡_, sym, _∙_}
 use Prim.Native.Nat.{ℕ, _-_, _<_}
 use native.Mathlib.Omega.{arith}
 use borrow.Fn.Kinds.{In}
@@ -71,6 +72,12 @@ turn : (t : ℕ) (c : put-children-lts.After-node-at (claims t)
     (c .node-at .result)
 turn t c = search needs
 
+-- the words of a text are the node's
+same-node : (t : ℕ) (c : put-children-lts.After-node-at2 (claims t)
+    (put-children-at t) put-children.Post put-children-Inv-loop put-children-μ-loop)
+    → c .node-at2 .result ≡ c .before .before .before .before .node-at .result
+same-node t c = c .node-at2 .ensures ∙ sym (c .before .before .before .before .node-at .ensures)
+
 -- the node is a tag
 tag-turn : (t : ℕ) (c : put-children-lts.After-known-told (claims t)
     (put-children-at t) put-children.Post put-children-Inv-loop put-children-μ-loop)
@@ -124,9 +131,12 @@ pub +put-children-spec : {M : Type 1} → statement M
     ))
     (λ c. full-leaves (opened t (c .before .before .before .before .before .before .before .before .before .before .before))
     (c .before .before .before .before .before .before .put-children .ensures) (c .before .before .put-end-tag .ensures))
-    (λ c κs. search (text-asks (turn t (c .before .before .before)), tag-missed, needs))
+    (λ c κs. search needs)
+    (λ c κs. rw (same-node t c) (search (text-asks (turn t (c .before .before .before .before)), tag-missed, needs)))
     (λ c. search needs)
     (λ c. search needs)
-    (λ c. search (text-leaves (turn t (c .before .before .before .before .before .before)), tag-missed, needs))
+    (λ c.
+    let put = rw (same-node t (c .before .before .before)) at (c .before .before .put-text .ensures) in
+    search (text-leaves (turn t (c .before .before .before .before .before .before .before)), put, tag-missed, needs))
     (λ c. search needs)
     (λ c. search (loop-end, needs))
