@@ -130,7 +130,7 @@ module _ (sheet tree states : List ℕ) {s : Sheet} {e : Element}
 
   says : RunSays (s .rules) e (run (s .rules) (items tree))
   says = subst (λ t. RunSays (s .rules) e (run (s .rules) (items t))) (sym (tree-is .0))
-      (run-says (s .rules) e (over-formed (s .tags) (in-range .few-tags) e (tree-is .1)))
+      (run-says s in-range e (over-formed (s .tags) (in-range .few-tags) e (tree-is .1)))
 
   judged : judge sheet tree (length states) ≡ passes (record { final = s .final; nodes = size e; outcome = run (s .rules) (items tree) })
   unfolding judge _>>=_ _>>_ require room-for

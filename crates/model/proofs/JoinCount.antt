@@ -1,19 +1,19 @@
--- A joint count part holds of a word of pairs exactly if the two count parts hold of its halves.
+-- A word of pairs satisfies a joint count part exactly if its halves satisfy the two count parts.
 use mathlib.Core.Path.{_≡_, refl, sym, ap, ap₂, _∙_}
-use mathlib.Core.Logic.{_≢_}
-use mathlib.Core.Bool.{Bool, true, false, cond, not, _&&_, _||_, and-true}
+use mathlib.Core.Logic.{_⊎_, _↔_, _≢_}
+use mathlib.Core.Bool.{Bool, true, false, cond}
 use mathlib.Core.List.{List, [], _∷_, _++_, map, flatMap, append-nil, append-assoc, List·Memᴰ·head, List·Memᴰ·tail}
 use mathlib.Core.Option.{Option, none, some}
 use Prim.Native.Nat.{ℕ, zero, suc, _+_, _-_, _*_, _≤_, _<_}
 use native.Mathlib.Omega.{arith}
 use lib.Dec.{eqb}
 use lib.IntN.{ℤ, pos, negsuc, negℤ, _+ℤ_, _*ℤ_, +ℤ-idl, +ℤ-idr, +ℤ-assoc, +ℤ-comm, negℤ-+ℤ, *ℤ-zero}
-use lib.Signed.{leZ}
+use lib.Signed.{_≤ℤ_}
 use lib.ListN.{length, getD, length-append, length-map, List·getD-append}
-use lib.Seq.{getD-append-add, getD-append-seam}
+use lib.Seq.{getD-append-add}
 use Rattle.model.specs.Lists.{_∈_, only, Ascending}
 use Rattle.model.specs.Sheet.{Coefficient, Step, at-most, remainder, not-step, and-step, or-step, CountInRange, IfAny}
-use Rattle.model.specs.Words.{occurrences, total, remainder-of, holds, truths, fits-count}
+use Rattle.model.specs.Words.{occurrences, total, Asks, LastAsks, Satisfied}
 use Rattle.model.specs.Compose.{Side, S, T, half, Sizes, coefficient-of, lift-sum, lift-step, joint-count, of-pairs}
 use Rattle.model.proofs.Tests.{eqb-yes, eqb-false}
 use Rattle.model.proofs.ListLaws.{∈-numbers, asc-from}
@@ -103,6 +103,45 @@ coefficient-apart (c ∷ cs) q y x h =
     total-append (only (eqb (c .state) q) _) (coefficient-of cs q y) (x ∷ []) ∙ ap₂ _+ℤ_ (only-apart (eqb (c .state) q) (c .times) y x h)
     (coefficient-apart cs q y x h)
 
+-- ---- steps one after another
+
+-- what each of the steps asks, after the earlier ones
+each-asks : List ℕ → List (Type 0) → List Step → List (Type 0)
+each-asks w earlier [] = earlier
+each-asks w earlier (s ∷ ss) = each-asks w (earlier ++ (Asks w earlier s ∷ [])) ss
+
+each-append : (w : List ℕ) (earlier : List (Type 0)) (ss ts : List Step) → each-asks w earlier (ss ++ ts) ≡ each-asks w
+    (each-asks w earlier ss) ts
+unfolding each-asks
+each-append w earlier [] ts = refl
+each-append w earlier (s ∷ ss) ts = each-append w (earlier ++ (Asks w earlier s ∷ [])) ss ts
+
+length-asks : (w : List ℕ) (earlier : List (Type 0)) (ss : List Step) → length (each-asks w earlier ss) ≡ length earlier + length ss
+unfolding each-asks
+length-asks w earlier [] = omega arith
+length-asks w earlier (s ∷ ss) =
+    omega (arith, length-asks w (earlier ++ (Asks w earlier s ∷ [])) ss, length-append earlier (Asks w earlier s ∷ []))
+
+-- the last of them decides
+last-is : (w : List ℕ) (earlier : List (Type 0)) (s : Step) (ss : List Step)
+    → getD (each-asks w earlier (s ∷ ss)) (length earlier + length ss) ⊥ ≡ LastAsks w earlier (s ∷ ss)
+unfolding each-asks
+last-is w earlier s [] = getD-append-add earlier (Asks w earlier s ∷ []) 0 ⊥
+last-is w earlier s (t ∷ ss) =
+    let e : length earlier + suc (length ss) ≡ length (earlier ++ (Asks w earlier s ∷ [])) + length ss
+    = omega (arith, length-append earlier (Asks w earlier s ∷ [])) in
+    rw e (last-is w (earlier ++ (Asks w earlier s ∷ [])) t ss)
+
+-- a step after others asks by what these ask
+last-after : (w : List ℕ) (earlier : List (Type 0)) (ss : List Step) (s : Step) → LastAsks w earlier (ss ++ (s ∷ [])) ≡ Asks w
+    (each-asks w earlier ss) s
+unfolding each-asks
+last-after w earlier [] s = refl
+last-after w earlier (t ∷ []) s = refl
+last-after w earlier (t ∷ u ∷ ss) s = last-after w (earlier ++ (Asks w earlier t ∷ [])) (u ∷ ss) s
+
+-- ---- lifted parts
+
 module _ (side : Side) (n : Sizes) where
   lifted-weight : (cs : List Coefficient) {x : ℕ} → x < of-pairs n → weight (lift-sum side n cs) x ≡ weight cs (half side (n .of-T) x)
   unfolding lift-sum
@@ -120,84 +159,76 @@ module _ (side : Side) (n : Sizes) where
 
   -- ---- lifted steps, after any number of other steps
 
-  module _ (w : List ℕ) (b : AllBelow (of-pairs n) w) (before : List Bool) where
-    lifted-holds : (earlier : List Bool) (s : Step) → holds w (before ++ earlier) (lift-step side n (length before) s) ≡ holds
+  module _ (w : List ℕ) (b : AllBelow (of-pairs n) w) (before : List (Type 0)) where
+    lifted-asks : (earlier : List (Type 0)) (s : Step) → Asks w (before ++ earlier) (lift-step side n (length before) s) ≡ Asks
         (halves side n w) earlier s
-    unfolding holds lift-step
-    lifted-holds earlier (at-most cs k) = ap (λ (z : ℤ). leZ z k) (lifted-total cs w b)
-    lifted-holds earlier (remainder cs m r) = ap (λ (z : ℤ). eqb (remainder-of z m) r) (lifted-total cs w b)
-    lifted-holds earlier (not-step i) = ap not (getD-append-add before earlier i false)
-    lifted-holds earlier (and-step i j) = ap₂ _&&_ (getD-append-add before earlier i false) (getD-append-add before earlier j false)
-    lifted-holds earlier (or-step i j) = ap₂ _||_ (getD-append-add before earlier i false) (getD-append-add before earlier j false)
+    unfolding lift-step
+    lifted-asks earlier (at-most cs k) = ap (λ (z : ℤ). z ≤ℤ k) (lifted-total cs w b)
+    lifted-asks earlier (remainder cs m r) = ap (λ (z : ℤ). (k : ℤ) × (z ≡ pos r +ℤ (k *ℤ pos m))) (lifted-total cs w b)
+    lifted-asks earlier (not-step i) = ap (λ (P : Type 0). P → ⊥) (getD-append-add before earlier i ⊥)
+    lifted-asks earlier (and-step i j) =
+        ap₂ (λ (P Q : Type 0). P × Q) (getD-append-add before earlier i ⊥) (getD-append-add before earlier j ⊥)
+    lifted-asks earlier (or-step i j) = ap₂ _⊎_ (getD-append-add before earlier i ⊥) (getD-append-add before earlier j ⊥)
 
-    lifted-truths : (earlier : List Bool) (ss : List Step)
-        → truths w (before ++ earlier) (map (lift-step side n (length before)) ss) ≡ before ++ truths (halves side n w) earlier ss
-    unfolding truths
-    lifted-truths earlier [] = refl
-    lifted-truths earlier (s ∷ ss) =
-        ap (λ (l : List Bool). truths w l (map (lift-step side n (length before)) ss))
-        (ap (λ (t : Bool). (before ++ earlier) ++ (t ∷ [])) (lifted-holds earlier s) ∙ append-assoc before earlier _)
-        ∙ lifted-truths (earlier ++ (holds (halves side n w) earlier s ∷ [])) ss
+    lifted-each : (earlier : List (Type 0)) (ss : List Step)
+        → each-asks w (before ++ earlier) (map (lift-step side n (length before)) ss) ≡ before ++ each-asks (halves side n w) earlier ss
+    unfolding each-asks
+    lifted-each earlier [] = refl
+    lifted-each earlier (s ∷ ss) =
+        ap (λ (l : List (Type 0)). each-asks w l (map (lift-step side n (length before)) ss))
+        (ap (λ (P : Type 0). (before ++ earlier) ++ (P ∷ [])) (lifted-asks earlier s) ∙ append-assoc before earlier _)
+        ∙ lifted-each (earlier ++ (Asks (halves side n w) earlier s ∷ [])) ss
 
-  lifted-fits : (w : List ℕ) → AllBelow (of-pairs n) w → (ss : List Step) → fits-count (some (map (lift-step side n 0) ss)) w ≡ fits-count
-      (some ss) (halves side n w)
-  unfolding fits-count
-  lifted-fits w b ss = ap₂ (λ (l : List Bool) (k : ℕ). getD l (k - 1) false) (lifted-truths w b [] [] ss)
-      (length-map ss (lift-step side n 0))
-
--- ---- steps one after another
-
-truths-append : (w : List ℕ) (earlier : List Bool) (ss ts : List Step) → truths w earlier (ss ++ ts) ≡ truths w (truths w earlier ss) ts
-unfolding truths
-truths-append w earlier [] ts = refl
-truths-append w earlier (s ∷ ss) ts = truths-append w (earlier ++ (holds w earlier s ∷ [])) ss ts
-
-length-truths : (w : List ℕ) (earlier : List Bool) (ss : List Step) → length (truths w earlier ss) ≡ length earlier + length ss
-unfolding truths
-length-truths w earlier [] = omega arith
-length-truths w earlier (s ∷ ss) =
-    omega (arith, length-truths w (earlier ++ (holds w earlier s ∷ [])) ss, length-append earlier (holds w earlier s ∷ []))
-
--- the last step decides
-last-fits : (w : List ℕ) (ss : List Step) (s : Step) → fits-count (some (ss ++ (s ∷ []))) w ≡ holds w (truths w [] ss) s
-unfolding fits-count truths
-last-fits w ss s =
-    let e : length (ss ++ (s ∷ [])) - 1 ≡ length (truths w [] ss) = omega (arith, length-append ss (s ∷ []), length-truths w [] ss) in
-    ap₂ (λ (l : List Bool) (k : ℕ). getD l k false) (truths-append w [] ss (s ∷ [])) e ∙ getD-append-seam (truths w [] ss)
-    (holds w (truths w [] ss) s) [] false
+  lifted-last : (w : List ℕ) → AllBelow (of-pairs n) w → (ss : List Step) → 1 ≤ length ss → LastAsks w []
+      (map (lift-step side n 0) ss) ≡ LastAsks (halves side n w) [] ss
+  lifted-last w b [] h = absurd (omega arith)
+  lifted-last w b (s ∷ ss) h =
+      sym (last-is w [] (lift-step side n 0 s) (map (lift-step side n 0) ss))
+      ∙ ap₂ (λ (l : List (Type 0)) (k : ℕ). getD l (0 + k) ⊥) (lifted-each w b [] [] (s ∷ ss)) (length-map ss (lift-step side n 0))
+      ∙ last-is (halves side n w) [] s ss
 
 -- ---- joint count parts
 
 module _ (n : Sizes) (w : List ℕ) (b : AllBelow (of-pairs n) w) where
-  both-truths : (ss ts : List Step)
-      → truths w [] (map (lift-step S n 0) ss ++ map (lift-step T n (length ss)) ts) ≡ truths (halves S n w) [] ss ++ truths
+  both-each : (ss ts : List Step)
+      → each-asks w [] (map (lift-step S n 0) ss ++ map (lift-step T n (length ss)) ts) ≡ each-asks (halves S n w) [] ss ++ each-asks
       (halves T n w) [] ts
-  both-truths ss ts =
-      let front : List Bool = truths (halves S n w) [] ss in
-      let e : length ss ≡ length front = omega (arith, length-truths (halves S n w) [] ss) in
-      truths-append w [] (map (lift-step S n 0) ss) (map (lift-step T n (length ss)) ts)
-      ∙ ap₂ (λ (l : List Bool) (k : ℕ). truths w l (map (lift-step T n k) ts)) (lifted-truths S n w b [] [] ss ∙ sym (append-nil front)) e
-      ∙ lifted-truths T n w b front [] ts
+  both-each ss ts =
+      let front : List (Type 0) = each-asks (halves S n w) [] ss in
+      let e : length ss ≡ length front = omega (arith, length-asks (halves S n w) [] ss) in
+      each-append w [] (map (lift-step S n 0) ss) (map (lift-step T n (length ss)) ts)
+      ∙ ap₂ (λ (l : List (Type 0)) (k : ℕ). each-asks w l (map (lift-step T n k) ts))
+      (lifted-each S n w b [] [] ss ∙ sym (append-nil front)) e
+      ∙ lifted-each T n w b front [] ts
 
-  both-fit : (ss ts : List Step) → 1 ≤ length ss
-      → fits-count (joint-count n (some ss) (some ts)) w ≡ (fits-count (some ss) (halves S n w) && fits-count (some ts) (halves T n w))
-  unfolding joint-count fits-count holds
-  both-fit ss ts h =
-      let front : List Bool = truths (halves S n w) [] ss in
-      let rest : List Bool = truths (halves T n w) [] ts in
-      let e : length front ≡ length ss = omega (arith, length-truths (halves S n w) [] ss) in
-      let final : Step = and-step (length ss - 1) (length ss + (length ts - 1)) in
-      ap (λ (l : List Step). fits-count (some l) w)
-      (sym (append-assoc (map (lift-step S n 0) ss) (map (lift-step T n (length ss)) ts) (final ∷ [])))
-      ∙ last-fits w (map (lift-step S n 0) ss ++ map (lift-step T n (length ss)) ts) final
-      ∙ ap (λ (l : List Bool). holds w l final) (both-truths ss ts)
-      ∙ ap₂ _&&_ (List·getD-append front rest false (length ss - 1) (omega arith))
-      (ap (λ (k : ℕ). getD (front ++ rest) (k + (length ts - 1)) false) (sym e) ∙ getD-append-add front rest (length ts - 1) false)
+  both-satisfied : (ss ts : List Step) → 1 ≤ length ss → 1 ≤ length ts
+      → Satisfied (joint-count n (some ss) (some ts)) w ≡ (LastAsks (halves S n w) [] ss × LastAsks (halves T n w) [] ts)
+  unfolding joint-count
+  both-satisfied [] ts h k = absurd (omega arith)
+  both-satisfied (s ∷ ss) [] h k = absurd (omega arith)
+  both-satisfied (s ∷ ss) (t ∷ ts) h k =
+      let m : ℕ = suc (length ss) in
+      let l : ℕ = suc (length ts) in
+      let front : List (Type 0) = each-asks (halves S n w) [] (s ∷ ss) in
+      let rest : List (Type 0) = each-asks (halves T n w) [] (t ∷ ts) in
+      let e : m ≡ length front = omega (arith, length-asks (halves S n w) [] (s ∷ ss)) in
+      let i : m - 1 ≡ 0 + length ss = omega arith in
+      let j : l - 1 ≡ 0 + length ts = omega arith in
+      let final : Step = and-step (m - 1) (m + (l - 1)) in
+      ap (λ (x : List Step). LastAsks w [] x)
+      (sym (append-assoc (map (lift-step S n 0) (s ∷ ss)) (map (lift-step T n m) (t ∷ ts)) (final ∷ [])))
+      ∙ last-after w [] (map (lift-step S n 0) (s ∷ ss) ++ map (lift-step T n m) (t ∷ ts)) final
+      ∙ ap (λ (x : List (Type 0)). Asks w x final) (both-each (s ∷ ss) (t ∷ ts))
+      ∙ ap₂ (λ (P Q : Type 0). P × Q)
+      (List·getD-append front rest ⊥ (m - 1) (omega arith) ∙ ap (λ (x : ℕ). getD front x ⊥) i ∙ last-is (halves S n w) [] s ss)
+      (ap (λ (x : ℕ). getD (front ++ rest) (x + (l - 1)) ⊥) e ∙ getD-append-add front rest (l - 1) ⊥
+      ∙ ap (λ (x : ℕ). getD rest x ⊥) j ∙ last-is (halves T n w) [] t ts)
 
-  pub joint-fits : (φ ψ : Option (List Step)) → IfAny (CountInRange (n .of-S)) φ
-      → fits-count (joint-count n φ ψ) w ≡ (fits-count φ (halves S n w) && fits-count ψ (halves T n w))
-  unfolding joint-count fits-count
-  joint-fits none none ok = refl
-  joint-fits (some ss) none ok = lifted-fits S n w b ss ∙ sym (and-true _)
-  joint-fits none (some ts) ok = lifted-fits T n w b ts
-  joint-fits (some ss) (some ts) ok = both-fit ss ts (ok .some-steps)
+  -- a word satisfies a joint count part exactly when its halves satisfy the two
+  pub joint-satisfied : (φ ψ : Option (List Step)) → IfAny (CountInRange (n .of-S)) φ → IfAny (CountInRange (n .of-T)) ψ
+      → Satisfied (joint-count n φ ψ) w ↔ (Satisfied φ (halves S n w) × Satisfied ψ (halves T n w))
+  unfolding joint-count
+  joint-satisfied none none ok ok′ = (λ h. (tt, tt), λ h. tt)
+  joint-satisfied (some ss) none ok ok′ = rw (lifted-last S n w b ss (ok .some-steps)) (λ h. (h, tt), λ h. h .0)
+  joint-satisfied none (some ts) ok ok′ = rw (lifted-last T n w b ts (ok′ .some-steps)) (λ h. (tt, h), λ h. h .1)
+  joint-satisfied (some ss) (some ts) ok ok′ = rw (both-satisfied ss ts (ok .some-steps) (ok′ .some-steps)) (λ h. h, λ h. h)

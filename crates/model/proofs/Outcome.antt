@@ -9,15 +9,15 @@ use Prim.Native.Nat.{ℕ}
 use lib.Dec.{eqb}
 use Rattle.model.specs.Lists.{_∈_, has}
 use Rattle.model.specs.Tree.{Span, Element, text, tag, Document, ε, _·_, nodes, nodesD}
-use Rattle.model.specs.Sheet.{Rule, one, two, three, Order, Step}
-use Rattle.model.specs.Words.{InLanguage, fits-order, fits-count}
+use Rattle.model.specs.Sheet.{Sheet, Rule, one, two, three, Order, Step, InRange}
+use Rattle.model.specs.Words.{InLanguage, Satisfied, fits-order, fits-count}
 use Rattle.model.specs.Relation.{NotOne, To, type-1, type-2, ToD, lone, type-3, Each, no-more, more, AtMostOne, ReachesTwo, Single}
 use Rattle.model.specs.Relation.{NoState}
 use Rattle.model.specs.Run.{at-text, at-content, at-tag, text-targets, content-targets, element-targets, Reached, nothing, just}
 use Rattle.model.specs.Run.{several, if-same, and-also, gist}
 use Rattle.model.proofs.Tests.{Yes, and-yes, and-left, and-right, same, eqb-yes, eqb-no}
 use Rattle.model.proofs.ListLaws.{∈-has, has-∈, ∈-only, only-test, only-eq, ∈-each, each-∈}
-use Rattle.model.proofs.WordLaws.{order-fits}
+use Rattle.model.proofs.WordLaws.{order-fits, count-fits}
 
 -- ---- a list of states, by its gist
 
@@ -87,7 +87,7 @@ module _ {R : List Rule} where
   lone-inv (type-3 n r i t m) = absurd n
 
   pub type-3-inv : {d : Document} {q : ℕ} → NotOne d → ToD R d q
-      → (w : List ℕ) × (o : Option Order) × (c : Option (List Step)) × Each R d w × InLanguage o w × Yes (fits-count c w) ×
+      → (w : List ℕ) × (o : Option Order) × (c : Option (List Step)) × Each R d w × InLanguage o w × Satisfied c w ×
       (three o c q ∈ R)
   type-3-inv n (lone h) = absurd n
   type-3-inv n (type-3 {w = w} {o = o} {c = c} k r i t m) = (w, o, c, r, i, t, m)
@@ -117,6 +117,26 @@ module _ {R : List Rule} where
       go (two b c p) n t = absurd (List·Memᴰ·not-nil t)
       go (three o c p) n t = absurd (List·Memᴰ·not-nil t)
 
+  -- content that isn't one element has the targets of the kind-three rules
+  by-rules : (d : Document) {w : List ℕ} → NotOne d → Each R d w → content-targets R w ≡ flatMap (at-content w) R
+  unfolding content-targets
+  by-rules ε n no-more = refl
+  by-rules (e · ε) n r = absurd n
+  by-rules (e · f · d) n (more h (more k r)) = refl
+
+-- what the child states say of content: a child has no state; or these are the children's
+abbrev pub ContentSays : List Rule → Document → Option (List ℕ) → Type 0
+ContentSays R d none = (w : List ℕ) → Each R d w → ⊥
+ContentSays R d (some w) = Each R d w
+
+module _ {s : Sheet} (ok : InRange s) where
+  abbrev R : List Rule
+  R = s .rules
+
+  -- the test of a rule's count part tells whether a word satisfies it
+  counts : {o : Option Order} {c : Option (List Step)} {q : ℕ} (w : List ℕ) → three o c q ∈ R → Yes (fits-count c w) ↔ Satisfied c w
+  counts {c = c} w m = count-fits (s .states) c w (ok .rules _ m .1)
+
   -- ---- content reaches the targets of the words of its elements' states
 
   fitting-reaches : {d : Document} {w : List ℕ} {q : ℕ} → NotOne d → Each R d w → q ∈ flatMap (at-content w) R → ToD R d q
@@ -128,14 +148,8 @@ module _ {R : List Rule} where
       go (two b c p) n t = absurd (List·Memᴰ·not-nil t)
       go (three o c p) n t =
           let b : Yes (fits-order o w && fits-count c w) = only-test _ p t in
-          type-3 u e (order-fits o w .0 (and-left _ _ b)) (and-right (fits-order o w) _ b) (Memᴰ·cast (ap (three o c) (only-eq _ p t)) n)
-
-  -- content that isn't one element has the targets of the kind-three rules
-  by-rules : (d : Document) {w : List ℕ} → NotOne d → Each R d w → content-targets R w ≡ flatMap (at-content w) R
-  unfolding content-targets
-  by-rules ε n no-more = refl
-  by-rules (e · ε) n r = absurd n
-  by-rules (e · f · d) n (more h (more k r)) = refl
+          type-3 u e (order-fits o w .0 (and-left _ _ b)) (counts w n .0 (and-right (fits-order o w) _ b))
+          (Memᴰ·cast (ap (three o c) (only-eq _ p t)) n)
 
   pub content-∈ : (d : Document) {w : List ℕ} {c : ℕ} → Each R d w → c ∈ content-targets R w → ToD R d c
   unfolding content-targets
@@ -147,7 +161,7 @@ module _ {R : List Rule} where
   unfolding content-targets at-content
   ∈-content d (lone {q = q} h) = (q ∷ [], more h no-more, List·Memᴰ·head refl)
   ∈-content d {c} (type-3 {w = w} {o = o} {c = φ} n r i t m) =
-      let fits = ∈-only (fits-order o w && fits-count φ w) c (and-yes (order-fits o w .1 i) t) in
+      let fits = ∈-only (fits-order o w && fits-count φ w) c (and-yes (order-fits o w .1 i) (counts w m .1 t)) in
       (w, r, subst (λ l. c ∈ l) (sym (by-rules d n r)) (∈-each (at-content w) m fits))
 
   -- ---- an element reaches the targets of its content's states
@@ -174,17 +188,12 @@ module _ {R : List Rule} where
       ∈-each (at-tag a (content-targets R v)) m
       (∈-only (eqb a a && has (content-targets R v) c) q (and-yes (eqb-yes {m = a} refl) (∈-has i)))
 
--- what the child states say of content: a child has no state; or these are the children's
-abbrev pub ContentSays : List Rule → Document → Option (List ℕ) → Type 0
-ContentSays R d none = (w : List ℕ) → Each R d w → ⊥
-ContentSays R d (some w) = Each R d w
-
-pub element-reaches : {R : List Rule} {a : ℕ} {w : Span} {d : Document} (c : Option (List ℕ)) → Single R (nodesD d) → ContentSays R d c
-    → (q : ℕ) → (q ∈ element-targets R a c) ↔ To R (tag a w d) q
-unfolding element-targets
-element-reaches {d = d} none s f q =
-    (λ m. absurd (List·Memᴰ·not-nil m), λ h. let (c, k, m) = tag-inv h in let (v, r, n) = ∈-content d k in absurd (f v r))
-element-reaches (some v) s r q = (λ m. element-∈ r m, λ h. ∈-element s r h)
+  pub element-reaches : {a : ℕ} {w : Span} {d : Document} (c : Option (List ℕ)) → Single R (nodesD d) → ContentSays R d c
+      → (q : ℕ) → (q ∈ element-targets R a c) ↔ To R (tag a w d) q
+  unfolding element-targets
+  element-reaches {d = d} none s f q =
+      (λ m. absurd (List·Memᴰ·not-nil m), λ h. let (c, k, m) = tag-inv h in let (v, r, n) = ∈-content d k in absurd (f v r))
+  element-reaches (some v) s r q = (λ m. element-∈ r m, λ h. ∈-element s r h)
 
 -- ---- what the gist of its targets says of a node
 

@@ -1,7 +1,6 @@
 -- The product of two automata reaches a pair exactly if each half is reached (source document 001, Proposition 6).
-use mathlib.Core.Path.{_≡_, refl, sym, ap, ap₂, _∙_, subst}
+use mathlib.Core.Path.{_≡_, refl, sym, ap, ap₂, subst}
 use mathlib.Core.Logic.{_↔_}
-use mathlib.Core.Bool.{Bool, _&&_}
 use mathlib.Core.List.{List, [], _∷_, flatMap, List·Memᴰ·head, List·Memᴰ·not-nil, List·Memᴰ·eq-of-singleton, Memᴰ·cast}
 use mathlib.Core.Option.{Option}
 use Prim.Native.Nat.{ℕ, _*_, _<_}
@@ -10,15 +9,15 @@ use lib.Dec.{eqb}
 use Rattle.model.specs.Lists.{_∈_}
 use Rattle.model.specs.Tree.{Element, Document, nodes}
 use Rattle.model.specs.Sheet.{Sheet, Rule, one, two, three, Order, Step, RuleInRange, InRange}
-use Rattle.model.specs.Words.{InLanguage, fits-count}
+use Rattle.model.specs.Words.{InLanguage, Satisfied}
 use Rattle.model.specs.Relation.{NotOne, To, type-1, type-2, ToD, lone, type-3, Each, no-more, more, Single, Takes, Accepts}
 use Rattle.model.specs.Compose.{pair, Side, S, T, half, Sizes, joint-order, joint-count, pair-rule, joint-rules, sizes, joint}
 use Rattle.model.specs.Compose.{of-side, of-pairs}
-use Rattle.model.proofs.Tests.{Yes, and-yes, and-left, and-right, same, eqb-yes}
+use Rattle.model.proofs.Tests.{same, eqb-yes}
 use Rattle.model.proofs.ListLaws.{∈-only, only-test, only-eq, ∈-each, each-∈, ∈-grid}
 use Rattle.model.proofs.Pairs.{either, on-both, half-pair, pair-halves, same-halves, ∈-pairs, AllBelow, halves}
 use Rattle.model.proofs.JoinOrder.{joint-language}
-use Rattle.model.proofs.JoinCount.{joint-fits}
+use Rattle.model.proofs.JoinCount.{joint-satisfied}
 use Rattle.model.proofs.RuleTargets.{target-of, target-in-range, reached-below, each-below}
 
 -- ---- rules
@@ -117,20 +116,18 @@ module _ (s t : Sheet) (s-ok : InRange s) (t-ok : InRange t) where
       Memᴰ·cast (ap₂ (two a) (half-pair side c below) (half-pair side q below′)) (m side)
 
   three-half : (side : Side) {d : Document} {o : Option Order} {φ : Option (List Step)} {w : List ℕ} {x : ℕ}
-      → NotOne d → Each J d w → Each (R side) d (halves side n w) → InLanguage o w → Yes (fits-count φ w) → FromPair n R (three o φ x) → ToD
+      → NotOne d → Each J d w → Each (R side) d (halves side n w) → InLanguage o w → Satisfied φ w → FromPair n R (three o φ x) → ToD
       (R side) d (half side p x)
   three-half side {d} {w = w} not-one each each′ i f (r, m, threes {o = o} {φ = φ} {q = q}) =
       let below : AllBelow (of-pairs n) w = each-below joint-target-below each in
       let (oS, φS, qS) = in-range S _ (m S) in
       let (oT, φT, qT) = in-range T _ (m T) in
       let (iS, iT) = joint-language n (o S) (o T) oS oT w below .0 i in
-      let fS : Bool = fits-count (φ S) (halves S n w) in
-      let fT : Bool = fits-count (φ T) (halves T n w) in
-      let e : Yes (fS && fT) = sym (joint-fits n w below (φ S) (φ T) φS) ∙ f in
+      let (fS, fT) = joint-satisfied n w below (φ S) (φ T) φS φT .0 f in
       subst (ToD (R side) d) (sym (half-pair side q qT))
       (type-3 not-one each′
       (on-both (λ z. InLanguage (o z) (halves z n w)) iS iT side)
-      (on-both (λ z. Yes (fits-count (φ z) (halves z n w))) (and-left fS fT e) (and-right fS fT e) side)
+      (on-both (λ z. Satisfied (φ z) (halves z n w)) fS fT side)
       (m side))
 
   -- where a pair is reached, each half is
@@ -155,13 +152,13 @@ module _ (s t : Sheet) (s-ok : InRange s) (t-ok : InRange t) where
   two-pair {a} {b} {c} {q} {r} m l = ∈-joint n R (λ side. two a (either b c side) (either q r side)) m l twos
 
   three-pair : {d : Document} {o u : Option Order} {φ ψ : Option (List Step)} {w : List ℕ} {q r : ℕ} → NotOne d → Each J d w
-      → InLanguage o (halves S n w) → InLanguage u (halves T n w) → Yes (fits-count φ (halves S n w)) → Yes (fits-count ψ (halves T n w))
+      → InLanguage o (halves S n w) → InLanguage u (halves T n w) → Satisfied φ (halves S n w) → Satisfied ψ (halves T n w)
       → three o φ q ∈ R S → three u ψ r ∈ R T → ToD J d (pair p q r)
   three-pair {o = o} {u} {φ} {ψ} {w} {q} {r} not-one each i j f g m l =
       let below : AllBelow (of-pairs n) w = each-below joint-target-below each in
       let (oS, φS, qS) = in-range S _ m in
       let (oT, φT, qT) = in-range T _ l in
-      type-3 not-one each (joint-language n o u oS oT w below .1 (i, j)) (joint-fits n w below φ ψ φS ∙ and-yes f g)
+      type-3 not-one each (joint-language n o u oS oT w below .1 (i, j)) (joint-satisfied n w below φ ψ φS φT .1 (f, g))
       (∈-joint n R (λ side. three (either o u side) (either φ ψ side) (either q r side)) m l threes)
 
   -- where two states are reached, their pair is
@@ -176,8 +173,8 @@ module _ (s t : Sheet) (s-ok : InRange s) (t-ok : InRange t) where
     to-pairD (type-3 not-one r i f m) (lone k) = absurd not-one
     to-pairD (type-3 {o = o} {c = φ} not-one r i f m) (type-3 {o = u} {c = ψ} _ v j g l) =
         let (w, e, e′, each) = each-pair r v in
-        three-pair not-one each (subst (InLanguage o) (sym e) i) (subst (InLanguage u) (sym e′) j) (ap (fits-count φ) e ∙ f)
-        (ap (fits-count ψ) e′ ∙ g) m l
+        three-pair not-one each (subst (InLanguage o) (sym e) i) (subst (InLanguage u) (sym e′) j) (subst (Satisfied φ) (sym e) f)
+        (subst (Satisfied ψ) (sym e′) g) m l
 
     each-pair : {d : Document} {v u : List ℕ} → Each (R S) d v → Each (R T) d u → (w : List ℕ) × (halves S n w ≡ v) ×
         (halves T n w ≡ u) × Each J d w

@@ -12,7 +12,7 @@ use borrow.Author.Tests.{lt-ltb, le-ltb}
 use Rattle.model.specs.Lists.{_∈_}
 use Rattle.model.specs.Tree.{Span, Element, text, tag, Document, ε, _·_, size, sizeD, nodes, nodesD, words, wordsD, is-text, Keeps}
 use Rattle.model.specs.Tree.{KeepsD, Over}
-use Rattle.model.specs.Sheet.{Rule}
+use Rattle.model.specs.Sheet.{Sheet, Rule, InRange}
 use Rattle.model.specs.Relation.{To, Each, no-more, more, AtMostOne, ReachesTwo, Single, StateWord, StatesOf, no-words, a-word}
 use Rattle.model.specs.Relation.{Highest}
 use Rattle.model.specs.Run.{text-targets, element-targets, of-kind, element-looks, Reached, nothing, just, several, gist, Item, items}
@@ -184,23 +184,27 @@ module _ (R : List Rule) where
       (put-judged (suc n) (of-kind 1 R) m (text k w) (text-targets R k) text-reaches s t (omega (arith, kinds R)))
   text-judged n k w l h (two-at i) t = highest-later t
 
-  tag-judged : (n a : ℕ) (w : Span) (d : Document) (l : List Element) → a ≤ 64 → (r : Ran) → Judged (length (elements d) + n)
+module _ (s : Sheet) (ok : InRange s) where
+  abbrev R : List Rule
+  R = s .rules
+
+  tag-judged : (n a : ℕ) (w : Span) (d : Document) (l : List Element) → a ≤ 64 → (r : Ran) → Judged R (length (elements d) + n)
       (nodesD d ++ l) r
-      → Judged (suc n) (tag a w d ∷ (nodesD d ++ l)) (judge-node R (item (tag a w d)) (map item (nodesD d ++ l)) r)
+      → Judged R (suc n) (tag a w d ∷ (nodesD d ++ l)) (judge-node R (item (tag a w d)) (map item (nodesD d ++ l)) r)
   unfolding judge-node judge-element item
-  tag-judged n a w d l h (ran st m) (s, t, b) =
+  tag-judged n a w d l h (ran st m) (single, t, b) =
       let c = child-states (child-words (sizeD d) 0 (map item (nodesD d ++ l)) st) in
       let says : ContentSays R d c = children-say d (children-words d l t) in
-      let reaches = element-reaches {a = a} {w = w} c (λ f i. s f (Memᴰ·append-left l i)) says in
+      let reaches = element-reaches ok {a = a} {w = w} c (λ f i. single f (Memᴰ·append-left l i)) says in
       rw (le-ltb 64 a h, less-one (sizeD d))
-      (put-judged (suc n) (element-looks R c) m (tag a w d) (element-targets R a c) reaches s t
+      (put-judged R (suc n) (element-looks R c) m (tag a w d) (element-targets R a c) reaches single t
       (omega (arith, kinds R, looks-≤ R d c says)))
   tag-judged n a w d l h (two-at i) t = highest-later t
 
-  judged : {n : ℕ} {l : List Element} → Forest n l → Judged n l (run R (map item l))
+  judged : {n : ℕ} {l : List Element} → Forest n l → Judged R n l (run R (map item l))
   unfolding run
   judged bare = (single-nil, no-words, omega arith)
-  judged (with-text {n = n} {k = k} {w = w} {l = l} h t) = text-judged n k w l h (run R (map item l)) (judged t)
+  judged (with-text {n = n} {k = k} {w = w} {l = l} h t) = text-judged R n k w l h (run R (map item l)) (judged t)
   judged (with-tag {n = n} {a = a} {w = w} {d = d} l h t) = tag-judged n a w d l h (run R (map item (nodesD d ++ l))) (judged t)
 
 -- What the run says of a tree: no node reaches two states, and these are the nodes' state words; or which is the highest-numbered node
@@ -209,9 +213,10 @@ abbrev pub RunSays : List Rule → Element → Ran → Type 0
 RunSays R e (ran st m) = Single R (nodes e) × StatesOf R (nodes e) st × (m ≤ 2 * size e * length R)
 RunSays R e (two-at i) = Highest (ReachesTwo R) (AtMostOne R) (nodes e) i
 
-pub run-says : (R : List Rule) (e : Element) → Formed e → RunSays R e (run R (items (words e)))
-run-says R e h = rw (items-of e) (go (run R (map item (nodes e))) (judged R (rw (append-nil (nodes e)) at (forest e h bare))))
+pub run-says : (s : Sheet) → InRange s → (e : Element) → Formed e → RunSays (s .rules) e (run (s .rules) (items (words e)))
+run-says s ok e h = rw (items-of e)
+    (go (run (s .rules) (map item (nodes e))) (judged s ok (rw (append-nil (nodes e)) at (forest e h bare))))
   where
-    go : (r : Ran) → Judged R 1 (nodes e) r → RunSays R e r
-    go (ran st m) (s, t, b) = (s, t, omega (arith, ap (λ (n : ℕ). 2 * n * length R) (length-nodes e)))
+    go : (r : Ran) → Judged (s .rules) 1 (nodes e) r → RunSays (s .rules) e r
+    go (ran st m) (u, t, b) = (u, t, omega (arith, ap (λ (n : ℕ). 2 * n * length (s .rules)) (length-nodes e)))
     go (two-at i) t = t

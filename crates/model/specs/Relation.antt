@@ -1,7 +1,6 @@
 -- The transition relation of source document 001, section 5.1.
 use mathlib.Core.Path.{_≡_}
 use mathlib.Core.Logic.{_≢_}
-use mathlib.Core.Bool.{true}
 use mathlib.Core.List.{List, [], _∷_, _++_}
 use mathlib.Core.Option.{Option}
 use Prim.Native.Nat.{ℕ, zero, suc}
@@ -9,7 +8,7 @@ use lib.ListN.{length}
 use Rattle.model.specs.Lists.{_∈_}
 use Rattle.model.specs.Tree.{Span, Element, text, tag, Document, ε, _·_, nodes}
 use Rattle.model.specs.Sheet.{Sheet, Rule, one, two, three, Order, Step}
-use Rattle.model.specs.Words.{InLanguage, fits-count}
+use Rattle.model.specs.Words.{InLanguage, Satisfied}
 
 -- n ≠ 1, for a document e₁ · … · eₙ
 abbrev pub NotOne : Document → Type 0
@@ -27,7 +26,7 @@ mutual
   pub data ToD (R : List Rule) : Document → ℕ → Type 0 where
     lone : {e : Element} {q : ℕ} → To R e q → ToD R (e · ε) q
     type-3 : {d : Document} {w : List ℕ} {o : Option Order} {c : Option (List Step)} {q : ℕ}
-        → NotOne d → Each R d w → InLanguage o w → fits-count c w ≡ true → three o c q ∈ R → ToD R d q
+        → NotOne d → Each R d w → InLanguage o w → Satisfied c w → three o c q ∈ R → ToD R d q
 
   -- e₁ → q₁ … eₙ → qₙ
   pub data Each (R : List Rule) : Document → List ℕ → Type 0 where

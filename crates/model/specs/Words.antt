@@ -1,12 +1,13 @@
 -- What an order part and a count part ask of a word of child states: document 01, "Order part" and "Count part".
 use mathlib.Core.Path.{_≡_}
+use mathlib.Core.Logic.{_⊎_}
 use mathlib.Core.Bool.{Bool, true, false, cond, not, _&&_, _||_}
 use mathlib.Core.List.{List, [], _∷_, _++_, flatMap}
 use mathlib.Core.Option.{Option, none, some}
 use Prim.Native.Nat.{ℕ, zero, suc, _+_, _-_, _%_}
 use lib.Dec.{eqb}
 use lib.IntN.{ℤ, pos, negsuc, _+ℤ_, _*ℤ_}
-use lib.Signed.{leZ}
+use lib.Signed.{leZ, _≤ℤ_}
 use lib.ListN.{length, getD}
 use Rattle.model.specs.Lists.{_∈_, has, only}
 use Rattle.model.specs.Sheet.{Arc, Order, Coefficient, Step, at-most, remainder, not-step, and-step, or-step}
@@ -23,7 +24,7 @@ abbrev pub InLanguage : Option Order → List ℕ → Type 0
 InLanguage none w = Unit {0}
 InLanguage (some o) w = (j : ℕ) × Path-of (o .arcs) 0 w j × (j ∈ o .accepting)
 
--- ---- order parts: sets of positions
+-- ---- order parts: the sets of positions of a run
 
 -- the position that an arc enters, where it leaves the set and reads the state
 unfoldable pub entered : List ℕ → ℕ → Arc → List ℕ
@@ -60,8 +61,9 @@ unfoldable pub reads : Option Order → List ℕ → ℕ
 reads none w = length w
 reads (some o) w = reads-from (o .arcs) (0 ∷ []) w
 
--- ---- count parts
+-- ---- count parts: what they ask
 
+-- how often a state occurs in a word: its Parikh mapping, #(w)
 unfoldable pub occurrences : ℕ → List ℕ → ℕ
 occurrences s [] = zero
 occurrences s (q ∷ w) = cond (eqb s q) 1 0 + occurrences s w
@@ -70,6 +72,28 @@ occurrences s (q ∷ w) = cond (eqb s q) 1 0 + occurrences s w
 unfoldable pub total : List Coefficient → List ℕ → ℤ
 total [] w = pos zero
 total (c ∷ cs) w = (c .times *ℤ pos (occurrences (c .state) w)) +ℤ total cs w
+
+-- What a step asks of a word, by what the earlier steps ask. "At most: … true if the sum of coefficient × occurrences is at most the bound.
+-- Remainder: … true if the sum is r plus a whole multiple of M. Not; and; or: one or two numbers of earlier steps, counted from 0."
+abbrev pub Asks : List ℕ → List (Type 0) → Step → Type 0
+Asks w earlier (at-most cs b) = total cs w ≤ℤ b
+Asks w earlier (remainder cs m r) = (k : ℤ) × (total cs w ≡ pos r +ℤ (k *ℤ pos m))
+Asks w earlier (not-step i) = getD earlier i ⊥ → ⊥
+Asks w earlier (and-step i j) = getD earlier i ⊥ × getD earlier j ⊥
+Asks w earlier (or-step i j) = getD earlier i ⊥ ⊎ getD earlier j ⊥
+
+-- "The last step decides."
+abbrev pub LastAsks : List ℕ → List (Type 0) → List Step → Type 0
+LastAsks w earlier [] = ⊥
+LastAsks w earlier (s ∷ []) = Asks w earlier s
+LastAsks w earlier (s ∷ t ∷ ss) = LastAsks w (earlier ++ (Asks w earlier s ∷ [])) (t ∷ ss)
+
+-- A count part φ is satisfied by a word w: ⊨ φ#(w) in source document 001. No count part means True.
+abbrev pub Satisfied : Option (List Step) → List ℕ → Type 0
+Satisfied none w = Unit {0}
+Satisfied (some ss) w = LastAsks w [] ss
+
+-- ---- count parts: the test of a run
 
 -- what a number leaves on division by m, never negative (negsuc n is −1 − n)
 unfoldable pub remainder-of : ℤ → ℕ → ℕ
