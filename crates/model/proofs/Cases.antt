@@ -1,15 +1,14 @@
--- Document 01's cases 1 to 10: one table, and one theorem over its rows, closed by computation.
-use mathlib.Core.Path.{_≡_, refl}
-use mathlib.Core.Bool.{true}
+-- Document 01's cases 1 to 10, and beside them runs that tell each kind of step and the looks of an order part: one table, and one theorem
+-- over its rows, closed by computation.
+use mathlib.Core.Path.{refl}
 use mathlib.Core.List.{List, [], _∷_, _++_, flatMap}
-use Prim.Native.Nat.{ℕ, _*_, _/_, _%_}
+use Prim.Native.Nat.{ℕ, suc, _*_, _-_}
 use Prim.Native.String.{String}
-use lib.Dec.{leb}
-use lib.IntN.{ℤ, negsuc}
-use lib.ListN.{length, replicate}
+use lib.IntN.{negsuc}
+use lib.ListN.{length}
 use Rattle.model.specs.Lists.{_∈_, has, every, only, from, row, grid}
 use Rattle.model.specs.Answers.{Said, count, accepted, refused, stuck, refusal, _>>=_, _>>_, require, room-for, answer-of}
-use Rattle.model.specs.Answers.{buffer-after}
+use Rattle.model.specs.Answers.{buffer-after, looks-in}
 use Rattle.model.specs.Tree.{size, words, is-text, nodes, text-symbol, tag-symbol, look, children-by, children, tree-of}
 use Rattle.model.specs.Tree.{without-starts}
 use Rattle.model.specs.Sheet.{mask, set-words, signed-word, arc-word, order-words, sum-words, step-words, count-words, rule-words}
@@ -28,9 +27,11 @@ use Rattle.model.specs.Names.{prepend, lines, number-from, tag-of, name-
 use Rattle.model.specs.Text.{moves, move, place-number, move-number, does, name-at, trimmed, text-at, behind, text-node, tag-node}
 use Rattle.model.specs.Text.{outside, closed, moved, state-at, refusal-2, refusal-3, refusal-4, innermost, refusal-5, start-tag}
 use Rattle.model.specs.Text.{refusal-6, refusal-7, number-at, first-refused, form-of}
-use Rattle.model.specs.Calls.{read, read-tree, verdict-of, swap, swap-out, in-second, joined, join, join-said, join-out, formcheck}
+use Rattle.model.specs.Calls.{judge, judge-said, read, read-tree, verdict-of, swap, swap-out, in-second, joined, join, join-said}
+use Rattle.model.specs.Calls.{join-out, formcheck}
 use Rattle.model.specs.Line.{bytes, digits, decimal, field, line-of, formcheck-line}
-use Rattle.model.proofs.Examples.{All, that-is-all, _and_, all-∈}
+use Rattle.model.proofs.Examples.{Row, _says_, _leaves_, _gives_, _stays-within_, Holds, All, that-is-all, _and_, all-∈, room, times}
+use Rattle.model.proofs.Examples.{file}
 
 -- ---- the sheets and the names
 
@@ -66,79 +67,128 @@ T =
 bare-sheet : ℕ → List ℕ
 bare-sheet p = 1 ∷ p ∷ 0 ∷ 0 ∷ 4 ∷ 0 ∷ []
 
--- a sheet's file: each word is 4 bytes, lowest first
-file : List ℕ → List ℕ
-file = flatMap (λ w. (w % 256) ∷ (w / 256 % 256) ∷ (w / 65536 % 256) ∷ (w / 16777216) ∷ [])
+-- what formcheck says of a form by a sheet
+check : (sheet : List ℕ) (form : String) → Said
+check sheet form = formcheck list (file sheet) (bytes form)
+
+-- ---- sheets that count leaves
+
+-- the tree <a><b/> … <b/></a> of n leaves, where a is tag 1 and b tag 2
+with-leaves : ℕ → List ℕ
+with-leaves n = (1 ∷ suc n ∷ 0 ∷ 0 ∷ []) ++ times n (2 ∷ 1 ∷ 0 ∷ 0 ∷ [])
+
+judge-leaves : (sheet : List ℕ) → ℕ → Said
+judge-leaves sheet n = judge-said sheet (with-leaves n) (room (suc n))
+
+-- A leaf has state 0. Content reaches 0 by an order part with arcs from 0 to 1 and from 1 to 2 that read 0; 0 and 2 accept. Then a has
+-- state 1, which is final.
+two-leaves : List ℕ
+two-leaves =
+    (1 ∷ 2 ∷ 2 ∷ 0 ∷ 2 ∷ 3 ∷ []) ++ (40 ∷ 3 ∷ 5 ∷ 0 ∷ 2 ∷ 1 ∷ 65538 ∷ 0 ∷ []) ++ (38 ∷ 2 ∷ 0 ∷ 0 ∷ []) ++ (38 ∷ 1 ∷ 0 ∷ 1 ∷ [])
+
+-- A leaf has state 0: its content reaches 0 by an order part without arcs. Content reaches 1 by the steps of a count part. Then a has
+-- state 2, which is final.
+counts-by : (steps : List (List ℕ)) → List ℕ
+counts-by steps =
+    (1 ∷ 3 ∷ 4 ∷ 0 ∷ 2 ∷ 4 ∷ []) ++ (40 ∷ 1 ∷ 1 ∷ 0 ∷ 0 ∷ 0 ∷ []) ++ (48 ∷ length steps ∷ []) ++ flatMap (λ s. s) steps ++ (1 ∷ [])
+    ++ (38 ∷ 2 ∷ 0 ∷ 0 ∷ []) ++ (38 ∷ 1 ∷ 1 ∷ 2 ∷ [])
+
+-- steps: at most k leaves; at least k, with −1 for each leaf and the bound −k
+most : ℕ → List ℕ
+most k = 1 ∷ 1 ∷ 0 ∷ 1 ∷ k ∷ []
+
+least : ℕ → List ℕ
+least k = 1 ∷ 1 ∷ 0 ∷ 4294967295 ∷ (4294967296 - k) ∷ []
+
+-- what the number of leaves leaves on division by 3; what minus that number leaves
+leave : ℕ → List ℕ
+leave r = 2 ∷ 1 ∷ 0 ∷ 1 ∷ 3 ∷ r ∷ []
+
+minus-leave : ℕ → List ℕ
+minus-leave r = 2 ∷ 1 ∷ 0 ∷ 4294967295 ∷ 3 ∷ r ∷ []
 
 -- ---- the table
 
--- A form that formcheck is run on; its line; a tree that is read; a sheet that is swapped; two sheets that are joined; a form that
--- formcheck is run on with their joint sheet, and the limit of its looks; a division.
-pub data Case : Type 0 where
-  checks : (sheet : List ℕ) (form : String) → Said → Case
-  prints : (sheet : List ℕ) (form line : String) → Case
-  reads-as : (form : String) (tree : List ℕ) → Case
-  swaps-to : (sheet swapped : List ℕ) → Case
-  joins-to : (first second joint : List ℕ) → Case
-  join-says : (first second : List ℕ) → Said → Case
-  joint-checks : (first second : List ℕ) (form : String) → Said → Case
-  looks-within : (looks limit : ℕ) → Case
-  leaves : (z : ℤ) (m r : ℕ) → Case
-
-pub Holds : Case → Type 0
-Holds (checks sheet form said) = formcheck list (file sheet) (bytes form) ≡ said
-Holds (prints sheet form line) = formcheck-line list (file sheet) (bytes form) ≡ bytes line
-Holds (reads-as form tree) = read-tree list (bytes form) (replicate (length tree) 0) ≡ tree
-Holds (swaps-to sheet swapped) = swap-out sheet (replicate (length swapped) 0) ≡ swapped
-Holds (joins-to first second joint) = join-out first second (replicate (length joint) 0) ≡ joint
-Holds (join-says first second said) = join-said first second (replicate 16384 0) ≡ said
-Holds (joint-checks first second form said) = formcheck list (file (join-out first second (replicate (length first) 0))) (bytes form) ≡ said
-Holds (looks-within looks limit) = leb looks limit ≡ true
-Holds (leaves z m r) = remainder-of z m ≡ r
-
-pub table : List Case
+pub table : List Row
 table =
-    checks S "<site><oven/><ct/><units/></site>" (accepted 4 23)
-    ∷ prints S "<site><oven/><ct/><units/></site>" "accepted 4 23\n"
-    ∷ checks S "<site><oven/><units/></site>" (stuck 0 13)
-    ∷ prints S "<site><oven/><units/></site>" "stuck 0 13\n"
-    ∷ checks S "<units> kWh </units>" (refused 3 5)
-    ∷ reads-as "<units> kWh </units>" (4 ∷ 2 ∷ 0 ∷ 0 ∷ 66 ∷ 1 ∷ 8 ∷ 3 ∷ [])
-    ∷ checks S "<units/>" (refused 3 5)
-    ∷ checks S "<units> </units>" (refused 3 5)
-    ∷ checks S "<site><oven/></site>" (stuck 0 9)
-    ∷ checks S-plus "<units> kWh </units>" (refusal 23 1)
-    ∷ prints S-plus "<units> kWh </units>" "error 23 1\n"
-    ∷ swaps-to S S-swapped
-    ∷ checks S-swapped "<units> kWh </units>" (accepted 3 5)
-    ∷ joins-to S T S
-    ∷ joint-checks S T "<site><oven/><ct/><units/></site>" (accepted 4 23)
-    ∷ looks-within 23 (2 * 4 * 6 * 7)
-    ∷ join-says (bare-sheet 8) (bare-sheet 8) (count 6)
-    ∷ join-says (bare-sheet 5) (bare-sheet 13) (refusal 21 1)
-    ∷ leaves (negsuc 0) 3 2
+    -- 1: accepted 4, 23 looks; the line of formcheck
+    check S "<site><oven/><ct/><units/></site>" says accepted 4 23
+    ∷ formcheck-line list (file S) (bytes "<site><oven/><ct/><units/></site>") leaves bytes "accepted 4 23\n"
+    -- 2: stuck 0, 13
+    ∷ check S "<site><oven/><units/></site>" says stuck 0 13
+    ∷ formcheck-line list (file S) (bytes "<site><oven/><units/></site>") leaves bytes "stuck 0 13\n"
+    -- 3: refused 3, 5; text at 8, length 3
+    ∷ check S "<units> kWh </units>" says refused 3 5
+    ∷ read-tree list (bytes "<units> kWh </units>") (room 8) leaves (4 ∷ 2 ∷ 0 ∷ 0 ∷ 66 ∷ 1 ∷ 8 ∷ 3 ∷ [])
+    -- 4: the same for <units/>, or white inside
+    ∷ check S "<units/>" says refused 3 5
+    ∷ check S "<units> </units>" says refused 3 5
+    -- 5: stuck 0, 9
+    ∷ check S "<site><oven/></site>" says stuck 0 9
+    -- 6: case 3 with S plus rule 33 2 1: 23, place 1
+    ∷ check S-plus "<units> kWh </units>" says refusal 23 1
+    ∷ formcheck-line list (file S-plus) (bytes "<units> kWh </units>") leaves bytes "error 23 1\n"
+    -- 7: S swapped has word 2 = 15; case 3: accepted 3, 5
+    ∷ swap-out S (room 43) leaves S-swapped
+    ∷ check S-swapped "<units> kWh </units>" says accepted 3 5
+    -- 8: S joined with T is S again; case 1: 23, at most 2 × 4 × 6 × 7 = 336
+    ∷ join-out S T (room 43) leaves S
+    ∷ check (join-out S T (room 43)) "<site><oven/><ct/><units/></site>" says accepted 4 23
+    ∷ looks-in (check (join-out S T (room 43)) "<site><oven/><ct/><units/></site>") stays-within (2 * 4 * 6 * 7)
+    -- 9: 8 and 8 states join; 5 and 13: 21, place 1
+    ∷ join-said (bare-sheet 8) (bare-sheet 8) (room 6) says count 6
+    ∷ join-said (bare-sheet 5) (bare-sheet 13) (room 6) says refusal 21 1
+    -- 10: −1 leaves 2 on division by 3
+    ∷ remainder-of (negsuc 0) 3 gives 2
+    -- Beside these: an order part. The third leaf empties the set of positions and is read, a fourth is not read.
+    ∷ judge-leaves two-leaves 2 says accepted 1 11
+    ∷ judge-leaves two-leaves 3 says stuck 0 13
+    ∷ judge-leaves two-leaves 4 says stuck 0 16
+    -- step 1, at most
+    ∷ judge-leaves (counts-by (most 2 ∷ [])) 2 says accepted 2 15
+    ∷ judge-leaves (counts-by (most 2 ∷ [])) 3 says stuck 0 18
+    -- step 2, remainder: 2 and −4 leave 2 on division by 3; 3 and −2 don't
+    ∷ judge-leaves (counts-by (leave 2 ∷ [])) 2 says accepted 2 15
+    ∷ judge-leaves (counts-by (leave 2 ∷ [])) 3 says stuck 0 18
+    ∷ judge-leaves (counts-by (minus-leave 2 ∷ [])) 4 says accepted 2 25
+    ∷ judge-leaves (counts-by (minus-leave 2 ∷ [])) 2 says stuck 0 13
+    -- step 3, not
+    ∷ judge-leaves (counts-by (most 2 ∷ (3 ∷ 0 ∷ []) ∷ [])) 3 says accepted 2 20
+    ∷ judge-leaves (counts-by (most 2 ∷ (3 ∷ 0 ∷ []) ∷ [])) 2 says stuck 0 13
+    -- step 4, and: both; the first alone; the second alone
+    ∷ judge-leaves (counts-by (most 3 ∷ least 3 ∷ (4 ∷ 0 ∷ 1 ∷ []) ∷ [])) 3 says accepted 2 20
+    ∷ judge-leaves (counts-by (most 3 ∷ least 3 ∷ (4 ∷ 0 ∷ 1 ∷ []) ∷ [])) 2 says stuck 0 13
+    ∷ judge-leaves (counts-by (most 3 ∷ least 3 ∷ (4 ∷ 0 ∷ 1 ∷ []) ∷ [])) 4 says stuck 0 23
+    -- step 5, or: the first alone; the second alone; neither
+    ∷ judge-leaves (counts-by (most 2 ∷ least 4 ∷ (5 ∷ 0 ∷ 1 ∷ []) ∷ [])) 2 says accepted 2 15
+    ∷ judge-leaves (counts-by (most 2 ∷ least 4 ∷ (5 ∷ 0 ∷ 1 ∷ []) ∷ [])) 4 says accepted 2 25
+    ∷ judge-leaves (counts-by (most 2 ∷ least 4 ∷ (5 ∷ 0 ∷ 1 ∷ []) ∷ [])) 3 says stuck 0 18
+    -- the last step decides: the first alone; the last alone
+    ∷ judge-leaves (counts-by (most 2 ∷ least 3 ∷ [])) 2 says stuck 0 13
+    ∷ judge-leaves (counts-by (most 2 ∷ least 3 ∷ [])) 3 says accepted 2 20
     ∷ []
 
 -- ---- the theorem
 
 computed : All Holds table
-unfolding Holds table list rules-of-S S S-plus S-swapped T bare-sheet file bytes flatMap has every only from row grid _>>=_ _>>_ require
-    room-for answer-of buffer-after size words is-text nodes text-symbol tag-symbol look children-by children tree-of without-starts mask
-    set-words signed-word arc-word order-words sum-words step-words count-words rule-words sheet-words small then word one-of all bit
-    members set-below arc-ok arc order signed coefficient sum at-most-step remainder-step one-earlier two-earlier step steps target
-    text-rule tag-rule order-rule count-rule order-count-rule rule sheet ended sheet-of file-words entered next-set last-set meets
-    fits-order reads-from reads occurrences total remainder-of holds truths fits-count at-text at-content at-tag text-targets
-    content-targets element-targets kind of-kind looks-of tries element-looks and-also gist items child-words child-states judge-text
-    judge-element judge-node run last-zero root-verdict verdict swapped lift-order pair-order joint-order coefficient-of lift-sum lift-step
-    joint-count pair-rule joint-rules joint positions-of arcs-of steps-of within-limits class-number is class-of letter-byte name-byte
-    is-name same-bytes digit-byte kind-of-text prepend lines number-from tag-of name-of good-line lines-checked names-of moves move
-    place-number move-number does name-at trimmed text-at behind text-node tag-node outside closed moved state-at refusal-2 refusal-3
-    refusal-4 innermost refusal-5 start-tag refusal-6 refusal-7 number-at first-refused form-of read read-tree verdict-of swap swap-out
-    in-second joined join join-said join-out formcheck digits decimal field line-of formcheck-line
+unfolding table list rules-of-S S S-plus S-swapped T bare-sheet check with-leaves judge-leaves two-leaves counts-by most least leave
+    minus-leave room times file bytes flatMap has every only from row grid _>>=_ _>>_ require room-for answer-of buffer-after size words
+    is-text nodes text-symbol tag-symbol look children-by children tree-of without-starts mask set-words signed-word arc-word order-words
+    sum-words step-words count-words rule-words sheet-words small then word one-of all bit members set-below arc-ok arc order signed
+    coefficient sum at-most-step remainder-step one-earlier two-earlier step steps target text-rule tag-rule order-rule count-rule
+    order-count-rule rule sheet ended sheet-of file-words entered next-set last-set meets fits-order reads-from reads occurrences total
+    remainder-of holds truths fits-count at-text at-content at-tag text-targets content-targets element-targets kind of-kind looks-of tries
+    element-looks and-also gist items child-words child-states judge-text judge-element judge-node run last-zero root-verdict verdict
+    swapped lift-order pair-order joint-order coefficient-of lift-sum lift-step joint-count pair-rule joint-rules joint positions-of arcs-of
+    steps-of within-limits class-number is class-of letter-byte name-byte is-name same-bytes digit-byte kind-of-text prepend lines
+    number-from tag-of name-of good-line lines-checked names-of moves move place-number move-number does name-at trimmed text-at behind
+    text-node tag-node outside closed moved state-at refusal-2 refusal-3 refusal-4 innermost refusal-5 start-tag refusal-6 refusal-7
+    number-at first-refused form-of read read-tree verdict-of swap swap-out in-second joined join join-said join-out judge judge-said
+    formcheck digits decimal field line-of formcheck-line
 computed =
     refl and refl and refl and refl and refl and refl and refl and refl and refl and refl and refl and refl and refl and refl and refl and
-    refl
-    and refl and refl and refl and that-is-all
+    refl and refl and refl and refl and refl and refl and refl and refl and refl and refl and refl and refl and refl and refl and refl and
+    refl and refl and refl and refl and refl and refl and refl and refl and that-is-all
 
-pub cases-hold : (c : Case) → c ∈ table → Holds c
-cases-hold = all-∈ Holds computed
+pub cases-hold : (r : Row) → r ∈ table → Holds r
+cases-hold = all-∈ computed

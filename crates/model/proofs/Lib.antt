@@ -40,6 +40,7 @@ pub mod ReadGood
 pub mod RoundTrip
 pub mod Formcheck
 pub mod Examples
+pub mod LargeInputs
 pub mod Cut
 pub mod LineLaws
 pub mod Cases

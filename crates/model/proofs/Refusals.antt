@@ -1,14 +1,11 @@
--- A computed example for each refusal, 1 to 11 and 20 to 24, with its neighbours: one table, one theorem over its rows.
-use mathlib.Core.Path.{_≡_, refl}
+-- Computed examples of each refusal, with their neighbours, and of two refusals at once, for the order within a call: one table, and one
+-- theorem over its rows. What is too large to compute on is in LargeInputs.
+use mathlib.Core.Path.{refl}
 use mathlib.Core.List.{List, [], _∷_, _++_, flatMap}
-use Prim.Native.Nat.{ℕ, _<_}
-use Prim.Native.String.{String}
-use native.Mathlib.Omega.{arith}
-use lib.ListN.{length, replicate, length-replicate}
-use borrow.Author.Tests.{lt-leb}
-use Rattle.model.specs.Lists.{_∈_, has, every, only, from, row, grid}
-use Rattle.model.specs.Answers.{Said, count, stuck, refusal, Checked, passes, refuses, _>>=_, _>>_, require, room-for, answer-of}
-use Rattle.model.specs.Answers.{buffer-after}
+use Prim.Native.Nat.{ℕ, _+_, _-_, _/_, _%_}
+use lib.ListN.{replicate}
+use Rattle.model.specs.Lists.{_∈_, has, every, only, from, numbers, row, grid}
+use Rattle.model.specs.Answers.{count, stuck, refusal, _>>=_, _>>_, require, room-for, answer-of, buffer-after}
 use Rattle.model.specs.Tree.{ε, size, words, nodes, text-symbol, tag-symbol, look, children-by, children, tree-of}
 use Rattle.model.specs.Sheet.{mask, set-words, signed-word, arc-word, order-words, sum-words, step-words, count-words, rule-words}
 use Rattle.model.specs.Sheet.{sheet-words, small, then, word, one-of, all, bit, members, set-below, arc-ok, arc, order, signed}
@@ -28,180 +25,257 @@ use Rattle.model.specs.Written.{texts-checked, short-enough}
 use Rattle.model.specs.Text.{State, blank, moves, move, place-number, move-number, does, name-at, trimmed, text-at, behind, text-node}
 use Rattle.model.specs.Text.{tag-node, outside, closed, moved, state-at, refusal-2, refusal-3, refusal-4, innermost, refusal-5}
 use Rattle.model.specs.Text.{start-tag, refusal-6, refusal-7, number-at, first-refused, form-of}
-use Rattle.model.specs.Calls.{names-said, read-said, tree-said, write-said, sheet-said, from-file, from-file-said, verdict-of}
-use Rattle.model.specs.Calls.{judge-said, first-states, states-after, judge-states, swap-said, swap-out, in-second, joined, join-said}
-use Rattle.model.specs.Calls.{join-out}
+use Rattle.model.specs.Calls.{names-said, read-said, read-tree, tree-said, write-said, write-out, sheet-said, from-file}
+use Rattle.model.specs.Calls.{from-file-said, from-file-sheet, verdict-of, judge-said, first-states, states-after, judge-states}
+use Rattle.model.specs.Calls.{swap-said, swap-out, in-second, joined, join-said, join-out, formcheck}
 use Rattle.model.specs.Calls as calls
 use Rattle.model.specs.Line.{bytes}
-use Rattle.model.proofs.Examples.{All, that-is-all, _and_, all-∈, both}
+use Rattle.model.proofs.Examples.{Row, _says_, _leaves_, _gives_, Holds, All, that-is-all, _and_, all-∈, room, times, file}
+use Rattle.model.proofs.LargeInputs.{ab, xs, around}
 
--- ---- the calls, on short inputs
+-- ---- inputs
 
--- Names a, b; a buffer of eight words, and of forty bytes.
-list : List ℕ
-list = bytes "a\nb\n"
-
-pub data Example : Type 0 where
-  names-say : (list : String) → Said → Example
-  read-says : (form : String) → Said → Example
-  blanks-say : (length : ℕ) → Said → Example
-  place-has : (st : State) (rest : String) (number : ℕ) → Example
-  sheet-says : List ℕ → Said → Example
-  file-says : List ℕ → Said → Example
-  tree-says : List ℕ → Said → Example
-  write-says : (source : String) (tree : List ℕ) → Said → Example
-  form-of-length : (length : ℕ) → Checked (List ℕ) → Example
-  judge-says : (sheet tree states left : List ℕ) → Said → Example
-  swap-says : (sheet out left : List ℕ) → Said → Example
-  join-says : (first second out left : List ℕ) → Said → Example
-
-pub Holds : Example → Type 0
-Holds (names-say list′ said) = names-said (bytes list′) ≡ said
-Holds (read-says form said) = read-said list (bytes form) (replicate 8 0) ≡ said
-Holds (blanks-say n said) = read-said list (replicate n 32) [] ≡ said
-Holds (place-has st rest number) = number-at list st (bytes rest) ≡ number
-Holds (sheet-says ws said) = sheet-said ws ≡ said
-Holds (file-says bs said) = from-file-said bs (replicate 8 0) ≡ said
-Holds (tree-says t said) = tree-said 2 t ≡ said
-Holds (write-says source t said) = write-said list (bytes source) t (replicate 40 0) ≡ said
-Holds (form-of-length n checked) = short-enough (replicate n 120) ≡ checked
-Holds (judge-says s t states left said) = both (judge-said s t states) (judge-states s t states) ≡ both said left
-Holds (swap-says s out left said) = both (swap-said s out) (swap-out s out) ≡ both said left
-Holds (join-says s t out left said) = both (join-said s t out) (join-out s t out) ≡ both said left
-
--- ---- the table
+-- n names of two letters: aa, ab, …
+two-letters : ℕ → List ℕ
+two-letters n = flatMap (λ i. (97 + i / 26) ∷ (97 + i % 26) ∷ 10 ∷ []) (numbers n)
 
 -- a state in content, in which some elements are open and some nodes were read
 inside : (depth nodes : ℕ) → State
 inside depth nodes = record { place = blank; content = ε; opened = replicate depth (record { name = 1; earlier = ε }); nodes = nodes }
 
--- a sheet of one state and two tags, with some rules; one final state or none
-sheet-with : (rules : ℕ) → List ℕ → List ℕ
-sheet-with n rules = (1 ∷ 1 ∷ 1 ∷ 0 ∷ 2 ∷ n ∷ []) ++ rules
+-- the tree of one element; of n elements one inside another
+lone : List ℕ
+lone = 1 ∷ 1 ∷ 0 ∷ 0 ∷ []
 
-pub table : List Example
+nested : ℕ → List ℕ
+nested n = flatMap (λ i. 1 ∷ (n - i) ∷ 0 ∷ 0 ∷ []) (numbers n)
+
+-- a sheet of some states, the first of them final, and two tags, with n times the words of a rule; of one state without a rule, with one
+with-rules : (states n : ℕ) (rule : List ℕ) → List ℕ
+with-rules states n rule = (1 ∷ states ∷ 1 ∷ 0 ∷ 2 ∷ n ∷ []) ++ times n rule
+
+no-rule : List ℕ
+no-rule = with-rules 1 0 []
+
+one-rule : List ℕ → List ℕ
+one-rule rule = with-rules 1 1 rule
+
+-- rules for content: all; by an order part with some positions and n loops at 0; by a count part of n steps that are true; by both
+every-content : List ℕ
+every-content = 32 ∷ 0 ∷ []
+
+loops : (positions n : ℕ) → List ℕ
+loops positions n = (positions ∷ 1 ∷ 0 ∷ n ∷ []) ++ replicate n 0
+
+true-steps : ℕ → List ℕ
+true-steps n = n ∷ times n (1 ∷ 0 ∷ 0 ∷ 0 ∷ [])
+
+by-order : (positions n : ℕ) → List ℕ
+by-order positions n = 40 ∷ (loops positions n ++ (0 ∷ []))
+
+by-count : ℕ → List ℕ
+by-count n = 48 ∷ (true-steps n ++ (0 ∷ []))
+
+by-both : (positions n k : ℕ) → List ℕ
+by-both positions n k = 56 ∷ (loops positions n ++ (true-steps k ++ (0 ∷ [])))
+
+-- a sheet of two states over some tags, by which an empty a reaches both
+doubles : (tags : ℕ) → List ℕ
+doubles tags = (1 ∷ 2 ∷ 1 ∷ 0 ∷ tags ∷ 3 ∷ []) ++ every-content ++ (38 ∷ 1 ∷ 0 ∷ 0 ∷ []) ++ (38 ∷ 1 ∷ 0 ∷ 1 ∷ [])
+
+-- ---- the table
+
+pub table : List Row
 table =
-    names-say "a\nb\n" (count 2)
-    ∷ names-say "" (refusal 8 0)
-    ∷ names-say "a\nb" (refusal 8 2)
-    ∷ names-say "a\n\n" (refusal 8 2)
-    ∷ names-say "a\nb-1\na\n" (refusal 8 6)
-    ∷ names-say "abcdefghijklmnopqrstuvwx\n" (count 1)
-    ∷ names-say "abcdefghijklmnopqrstuvwxy\n" (refusal 8 0)
-    ∷ names-say "a\n1b\n" (refusal 8 2)
-    ∷ blanks-say 65536 (refusal 1 65535)
-    ∷ read-says "<a>&</a>" (refusal 2 3)
-    ∷ read-says "<a&" (refusal 2 2)
-    ∷ read-says "" (refusal 3 0)
-    ∷ read-says "<a></a>x" (refusal 3 7)
-    ∷ read-says "<a>x>y</a>" (refusal 3 4)
-    ∷ read-says "<a><" (refusal 3 4)
-    ∷ read-says "</a>" (refusal 3 1)
-    ∷ read-says "<a / >" (refusal 3 4)
-    ∷ read-says "<c" (refusal 4 1)
-    ∷ read-says "<c&" (refusal 4 1)
-    ∷ read-says "<a></b>" (refusal 5 5)
-    ∷ read-says "<a></aa" (refusal 5 5)
-    ∷ read-says " <a>\n<b /> 12 </a> " (refusal 22 12)
-    ∷ read-says "<a>x</a>" (count 2)
-    ∷ place-has (inside 31 31) "<a" 0
-    ∷ place-has (inside 32 32) "<a" 6
-    ∷ place-has (inside 32 32) "</a" 0
-    ∷ place-has (inside 1 4095) "x" 0
-    ∷ place-has (inside 1 4096) "x" 7
-    ∷ place-has (inside 1 4096) "<a" 7
-    ∷ place-has (inside 1 4096) "</a" 0
-    ∷ place-has (inside 32 4096) "<a" 6
-    ∷ sheet-says [] (refusal 9 0)
-    ∷ sheet-says (1 ∷ 1 ∷ 1 ∷ 0 ∷ 2 ∷ 0 ∷ []) (count 6)
-    ∷ sheet-says (2 ∷ 1 ∷ 1 ∷ 0 ∷ 2 ∷ 0 ∷ []) (refusal 9 0)
-    ∷ sheet-says (1 ∷ 1 ∷ 2 ∷ 0 ∷ 2 ∷ 0 ∷ []) (refusal 9 2)
-    ∷ sheet-says (1 ∷ 1 ∷ 1 ∷ 1 ∷ 2 ∷ 0 ∷ []) (refusal 9 3)
-    ∷ sheet-says (1 ∷ 1 ∷ 1 ∷ 0 ∷ 2 ∷ 0 ∷ 7 ∷ []) (refusal 9 6)
-    ∷ sheet-says (1 ∷ 1 ∷ 1 ∷ 0 ∷ 2 ∷ 1 ∷ []) (refusal 9 6)
-    ∷ sheet-says (sheet-with 1 (34 ∷ 1 ∷ 0 ∷ [])) (refusal 9 6)
-    ∷ sheet-says (sheet-with 1 (33 ∷ 3 ∷ 0 ∷ [])) (refusal 9 7)
-    ∷ sheet-says (sheet-with 1 (38 ∷ 3 ∷ 0 ∷ 0 ∷ [])) (refusal 9 7)
-    ∷ sheet-says (sheet-with 1 (40 ∷ 1 ∷ 1 ∷ 0 ∷ 1 ∷ 1 ∷ 0 ∷ [])) (refusal 9 11)
-    ∷ sheet-says (sheet-with 1 (40 ∷ 1 ∷ 1 ∷ 0 ∷ 1 ∷ 0 ∷ 0 ∷ [])) (count 13)
-    ∷ sheet-says (sheet-with 1 (48 ∷ 1 ∷ 3 ∷ 0 ∷ 0 ∷ [])) (refusal 9 9)
-    ∷ sheet-says (sheet-with 1 (48 ∷ 1 ∷ 1 ∷ 1 ∷ 0 ∷ 0 ∷ 0 ∷ 0 ∷ [])) (refusal 9 11)
-    ∷ sheet-says (sheet-with 1 (48 ∷ 1 ∷ 1 ∷ 1 ∷ 0 ∷ 32768 ∷ 0 ∷ 0 ∷ [])) (refusal 9 11)
-    ∷ sheet-says (sheet-with 1 (48 ∷ 1 ∷ 2 ∷ 1 ∷ 0 ∷ 4294934528 ∷ 3 ∷ 3 ∷ 0 ∷ [])) (refusal 9 13)
-    ∷ file-says (1 ∷ 0 ∷ 0 ∷ 0 ∷ 1 ∷ 0 ∷ 0 ∷ 0 ∷ 1 ∷ 0 ∷ 0 ∷ 0 ∷ 0 ∷ 0 ∷ 0 ∷ 0 ∷ 2 ∷ 0 ∷ 0 ∷ 0 ∷ 0 ∷ 0 ∷ 0 ∷ 0 ∷ []) (count 6)
-    ∷ file-says (1 ∷ 0 ∷ 0 ∷ 0 ∷ 1 ∷ 0 ∷ 0 ∷ 0 ∷ 1 ∷ 0 ∷ 0 ∷ 0 ∷ 0 ∷ 0 ∷ 0 ∷ 0 ∷ 2 ∷ 0 ∷ 0 ∷ 0 ∷ 0 ∷ 0 ∷ 0 ∷ 0 ∷ 7 ∷ []) (refusal 9 6)
-    ∷ tree-says (1 ∷ 1 ∷ 0 ∷ 0 ∷ []) (count 1)
-    ∷ tree-says [] (refusal 10 0)
-    ∷ tree-says (1 ∷ 1 ∷ 0 ∷ 0 ∷ 9 ∷ []) (refusal 10 1)
-    ∷ tree-says (3 ∷ 1 ∷ 0 ∷ 0 ∷ []) (refusal 10 0)
-    ∷ tree-says (1 ∷ 2 ∷ 0 ∷ 0 ∷ []) (refusal 10 0)
-    ∷ tree-says (1 ∷ 3 ∷ 0 ∷ 0 ∷ 66 ∷ 1 ∷ 0 ∷ 1 ∷ 65 ∷ 1 ∷ 0 ∷ 1 ∷ []) (refusal 10 2)
-    ∷ tree-says (1 ∷ 3 ∷ 0 ∷ 0 ∷ 2 ∷ 2 ∷ 0 ∷ 0 ∷ 66 ∷ 2 ∷ 0 ∷ 1 ∷ []) (refusal 10 2)
-    ∷ tree-says (1 ∷ 3 ∷ 0 ∷ 0 ∷ 2 ∷ 3 ∷ 0 ∷ 0 ∷ 66 ∷ 1 ∷ 0 ∷ 1 ∷ []) (refusal 10 1)
-    ∷ write-says "x1 " (1 ∷ 2 ∷ 0 ∷ 0 ∷ 66 ∷ 1 ∷ 0 ∷ 2 ∷ []) (count 9)
-    ∷ write-says "x1 " (1 ∷ 2 ∷ 0 ∷ 0 ∷ 66 ∷ 1 ∷ 0 ∷ 3 ∷ []) (refusal 11 1)
-    ∷ write-says "x1 " (1 ∷ 2 ∷ 0 ∷ 0 ∷ 65 ∷ 1 ∷ 0 ∷ 2 ∷ []) (refusal 11 1)
-    ∷ write-says "x1 " (1 ∷ 2 ∷ 0 ∷ 0 ∷ 65 ∷ 1 ∷ 1 ∷ 1 ∷ []) (count 8)
-    ∷ write-says "x1 " (1 ∷ 2 ∷ 0 ∷ 0 ∷ 66 ∷ 1 ∷ 2 ∷ 2 ∷ []) (refusal 11 1)
-    ∷ write-says "x1 " (1 ∷ 2 ∷ 0 ∷ 1 ∷ 66 ∷ 1 ∷ 0 ∷ 2 ∷ []) (refusal 11 0)
-    ∷ write-says "x1 " (1 ∷ 1 ∷ 0 ∷ 0 ∷ []) (count 4)
-    ∷ form-of-length 65536 (refuses 24 65536)
-    ∷ judge-says (sheet-with 0 []) (1 ∷ 1 ∷ 0 ∷ 0 ∷ []) (7 ∷ 7 ∷ []) (0 ∷ 7 ∷ []) (stuck 0 0)
-    ∷ judge-says (sheet-with 0 []) (1 ∷ 1 ∷ 0 ∷ 0 ∷ []) [] [] (refusal 22 1)
-    ∷ judge-says (1 ∷ 2 ∷ 1 ∷ 0 ∷ 2 ∷ 3 ∷ 32 ∷ 0 ∷ 38 ∷ 1 ∷ 0 ∷ 0 ∷ 38 ∷ 1 ∷ 0 ∷ 1 ∷ []) (1 ∷ 2 ∷ 0 ∷ 0 ∷ 1 ∷ 1 ∷ 0 ∷ 0 ∷ [])
-    (7 ∷ 7 ∷ 7 ∷ []) (0 ∷ 0 ∷ 7 ∷ []) (refusal 23 1)
-    ∷ judge-says (1 ∷ 2 ∷ 1 ∷ 0 ∷ 2 ∷ 3 ∷ 32 ∷ 0 ∷ 38 ∷ 1 ∷ 0 ∷ 0 ∷ 38 ∷ 1 ∷ 0 ∷ 1 ∷ []) (3 ∷ 1 ∷ 0 ∷ 0 ∷ []) (7 ∷ 7 ∷ []) (7 ∷ 7 ∷ [])
-    (refusal 10 0)
-    ∷ swap-says (sheet-with 0 []) (7 ∷ 7 ∷ 7 ∷ 7 ∷ 7 ∷ 7 ∷ 7 ∷ []) (1 ∷ 1 ∷ 0 ∷ 0 ∷ 2 ∷ 0 ∷ 7 ∷ []) (count 6)
-    ∷ swap-says (sheet-with 0 []) (7 ∷ 7 ∷ 7 ∷ 7 ∷ 7 ∷ []) (7 ∷ 7 ∷ 7 ∷ 7 ∷ 7 ∷ []) (refusal 22 6)
-    ∷ join-says (1 ∷ 1 ∷ 1 ∷ 0 ∷ 2 ∷ 0 ∷ []) (1 ∷ 2 ∷ 2 ∷ 0 ∷ 2 ∷ 0 ∷ []) (7 ∷ 7 ∷ 7 ∷ 7 ∷ 7 ∷ 7 ∷ 7 ∷ []) (1 ∷ 2 ∷ 2 ∷ 0 ∷ 2 ∷ 0 ∷ 7 ∷ [])
-    (count 6)
-    ∷ join-says (1 ∷ 1 ∷ 1 ∷ 0 ∷ 2 ∷ 0 ∷ []) (1 ∷ 2 ∷ 2 ∷ 0 ∷ 3 ∷ 0 ∷ []) (7 ∷ []) (7 ∷ []) (refusal 20 3)
-    ∷ join-says (1 ∷ 1 ∷ 1 ∷ 0 ∷ 2 ∷ 0 ∷ []) (1 ∷ 2 ∷ 4 ∷ 0 ∷ 2 ∷ 0 ∷ []) (7 ∷ []) (7 ∷ []) (refusal 9 20002)
-    ∷ join-says (1 ∷ 8 ∷ 1 ∷ 0 ∷ 2 ∷ 0 ∷ []) (1 ∷ 9 ∷ 2 ∷ 0 ∷ 2 ∷ 0 ∷ []) (7 ∷ []) (7 ∷ []) (refusal 21 1)
-    ∷ join-says (1 ∷ 1 ∷ 1 ∷ 0 ∷ 2 ∷ 0 ∷ []) (1 ∷ 2 ∷ 2 ∷ 0 ∷ 2 ∷ 0 ∷ []) (7 ∷ []) (7 ∷ []) (refusal 22 6)
+    -- 8: a name list; empty; its last line without byte 10; an empty line; a name again
+    names-said ab says count 2
+    ∷ names-said [] says refusal 8 0
+    ∷ names-said (bytes "a\nb") says refusal 8 2
+    ∷ names-said (bytes "a\n\n") says refusal 8 2
+    ∷ names-said (bytes "a\nb-1\na\n") says refusal 8 6
+    -- a name of 24 bytes, and of 25; one that begins with a digit; 64 names, and 65
+    ∷ names-said (bytes "abcdefghijklmnopqrstuvwx\n") says count 1
+    ∷ names-said (bytes "abcdefghijklmnopqrstuvwxy\n") says refusal 8 0
+    ∷ names-said (bytes "a\n1b\n") says refusal 8 2
+    ∷ names-said (two-letters 64) says count 64
+    ∷ names-said (two-letters 65) says refusal 8 192
+    -- 2: a forbidden byte in a text; in a tag, where the form can't go on with it: 2 before 3
+    ∷ read-said ab (bytes "<a>&</a>") [] says refusal 2 3
+    ∷ read-said ab (bytes "<a&") [] says refusal 2 2
+    -- 3: the end, at once and after <; a byte after the root; > in a text; an end tag first; white after /
+    ∷ read-said ab [] [] says refusal 3 0
+    ∷ read-said ab (bytes "<a><") [] says refusal 3 4
+    ∷ read-said ab (bytes "<a></a>x") [] says refusal 3 7
+    ∷ read-said ab (bytes "<a>x>y</a>") [] says refusal 3 4
+    ∷ read-said ab (bytes "</a>") [] says refusal 3 1
+    ∷ read-said ab (bytes "<a / >") [] says refusal 3 4
+    -- 4: a name that isn't listed, and nothing after it matters: the smaller place before the smaller number
+    ∷ read-said ab (bytes "<c") [] says refusal 4 1
+    ∷ read-said ab (bytes "<c&") [] says refusal 4 1
+    -- 5: an end tag with another name; a name goes on as long as it can
+    ∷ read-said ab (bytes "<a></b>") [] says refusal 5 5
+    ∷ read-said ab (bytes "<a></aa") [] says refusal 5 5
+    -- 6 and 7, by the number that refuses a place: an element at depth 32, and 33; an end tag there
+    ∷ number-at ab (inside 31 31) (bytes "<a") gives 0
+    ∷ number-at ab (inside 32 32) (bytes "<a") gives 6
+    ∷ number-at ab (inside 32 32) (bytes "</a") gives 0
+    -- node 4,096, and 4,097: a text, a start tag, an end tag; 6 before 7
+    ∷ number-at ab (inside 1 4095) (bytes "x") gives 0
+    ∷ number-at ab (inside 1 4096) (bytes "x") gives 7
+    ∷ number-at ab (inside 1 4096) (bytes "<a") gives 7
+    ∷ number-at ab (inside 1 4096) (bytes "</a") gives 0
+    ∷ number-at ab (inside 32 4096) (bytes "<a") gives 6
+    -- 9: no word; a sheet; another edition; 64 states, and 65; a final state at p, and at 32; 64 tags, and 65; 1,025 rules
+    ∷ sheet-said [] says refusal 9 0
+    ∷ sheet-said no-rule says count 6
+    ∷ sheet-said (2 ∷ 1 ∷ 1 ∷ 0 ∷ 2 ∷ 0 ∷ []) says refusal 9 0
+    ∷ sheet-said (1 ∷ 64 ∷ 1 ∷ 0 ∷ 2 ∷ 0 ∷ []) says count 6
+    ∷ sheet-said (1 ∷ 65 ∷ 1 ∷ 0 ∷ 2 ∷ 0 ∷ []) says refusal 9 1
+    ∷ sheet-said (1 ∷ 1 ∷ 2 ∷ 0 ∷ 2 ∷ 0 ∷ []) says refusal 9 2
+    ∷ sheet-said (1 ∷ 1 ∷ 1 ∷ 1 ∷ 2 ∷ 0 ∷ []) says refusal 9 3
+    ∷ sheet-said (1 ∷ 1 ∷ 1 ∷ 0 ∷ 64 ∷ 0 ∷ []) says count 6
+    ∷ sheet-said (1 ∷ 1 ∷ 1 ∷ 0 ∷ 65 ∷ 0 ∷ []) says refusal 9 4
+    ∷ sheet-said (1 ∷ 1 ∷ 1 ∷ 0 ∷ 2 ∷ 1025 ∷ []) says refusal 9 5
+    -- a word after the last rule; no word where a rule begins; a map; a kind of text; a tag
+    ∷ sheet-said (no-rule ++ (7 ∷ [])) says refusal 9 6
+    ∷ sheet-said (one-rule []) says refusal 9 6
+    ∷ sheet-said (one-rule (34 ∷ 1 ∷ 0 ∷ [])) says refusal 9 6
+    ∷ sheet-said (one-rule (33 ∷ 3 ∷ 0 ∷ [])) says refusal 9 7
+    ∷ sheet-said (one-rule (38 ∷ 3 ∷ 0 ∷ 0 ∷ [])) says refusal 9 7
+    -- an arc; one that enters position 1 of one position
+    ∷ sheet-said (one-rule (40 ∷ 1 ∷ 1 ∷ 0 ∷ 1 ∷ 0 ∷ 0 ∷ [])) says count 13
+    ∷ sheet-said (one-rule (40 ∷ 1 ∷ 1 ∷ 0 ∷ 1 ∷ 1 ∷ 0 ∷ [])) says refusal 9 11
+    -- step 0, not of step 0; the coefficients 0 and 32,768; −32,768, with remainder 3 on division by 3
+    ∷ sheet-said (one-rule (48 ∷ 1 ∷ 3 ∷ 0 ∷ 0 ∷ [])) says refusal 9 9
+    ∷ sheet-said (one-rule (48 ∷ 1 ∷ 1 ∷ 1 ∷ 0 ∷ 0 ∷ 0 ∷ 0 ∷ [])) says refusal 9 11
+    ∷ sheet-said (one-rule (48 ∷ 1 ∷ 1 ∷ 1 ∷ 0 ∷ 32768 ∷ 0 ∷ 0 ∷ [])) says refusal 9 11
+    ∷ sheet-said (one-rule (48 ∷ 1 ∷ 2 ∷ 1 ∷ 0 ∷ 4294934528 ∷ 3 ∷ 3 ∷ 0 ∷ [])) says refusal 9 13
+    -- one byte over at a file's end
+    ∷ from-file-said (file no-rule) (room 6) says count 6
+    ∷ from-file-said (file no-rule ++ (7 ∷ [])) (room 6) says refusal 9 6
+    -- 10: a tree; no node; a word over; 4,097 nodes; a symbol that is no tag; node 0 of another size than n
+    ∷ tree-said 2 lone says count 1
+    ∷ tree-said 2 [] says refusal 10 0
+    ∷ tree-said 2 (lone ++ (9 ∷ [])) says refusal 10 1
+    ∷ tree-said 2 (replicate 16388 0) says refusal 10 4097
+    ∷ tree-said 2 (3 ∷ 1 ∷ 0 ∷ 0 ∷ []) says refusal 10 0
+    ∷ tree-said 2 (1 ∷ 2 ∷ 0 ∷ 0 ∷ []) says refusal 10 0
+    -- two texts side by side; a text of size 2; a node that ends after its parent; depth 32, and 33
+    ∷ tree-said 2 (1 ∷ 3 ∷ 0 ∷ 0 ∷ 66 ∷ 1 ∷ 0 ∷ 1 ∷ 65 ∷ 1 ∷ 0 ∷ 1 ∷ []) says refusal 10 2
+    ∷ tree-said 2 (1 ∷ 3 ∷ 0 ∷ 0 ∷ 2 ∷ 2 ∷ 0 ∷ 0 ∷ 66 ∷ 2 ∷ 0 ∷ 1 ∷ []) says refusal 10 2
+    ∷ tree-said 2 (1 ∷ 3 ∷ 0 ∷ 0 ∷ 2 ∷ 3 ∷ 0 ∷ 0 ∷ 66 ∷ 1 ∷ 0 ∷ 1 ∷ []) says refusal 10 1
+    ∷ tree-said 2 (nested 32) says count 32
+    ∷ tree-said 2 (nested 33) says refusal 10 32
+    -- 11: a text of kind 2, of kind 1; not trimmed; of the other kind; past the source; a tag whose text words aren't 0
+    ∷ write-said ab (bytes "x1 ") (around 2) (room 9) says count 9
+    ∷ write-said ab (bytes "x1 ") (1 ∷ 2 ∷ 0 ∷ 0 ∷ 65 ∷ 1 ∷ 1 ∷ 1 ∷ []) (room 9) says count 8
+    ∷ write-said ab (bytes "x1 ") (around 3) (room 9) says refusal 11 1
+    ∷ write-said ab (bytes "x1 ") (1 ∷ 2 ∷ 0 ∷ 0 ∷ 65 ∷ 1 ∷ 0 ∷ 2 ∷ []) (room 9) says refusal 11 1
+    ∷ write-said ab (bytes "x1 ") (1 ∷ 2 ∷ 0 ∷ 0 ∷ 66 ∷ 1 ∷ 2 ∷ 2 ∷ []) (room 9) says refusal 11 1
+    ∷ write-said ab (bytes "x1 ") (1 ∷ 2 ∷ 0 ∷ 1 ∷ 66 ∷ 1 ∷ 0 ∷ 2 ∷ []) (room 9) says refusal 11 0
+    -- 20: T's tags; the sheet's, beside a name list
+    ∷ join-said no-rule (1 ∷ 1 ∷ 1 ∷ 0 ∷ 3 ∷ 0 ∷ []) (room 6) says refusal 20 3
+    ∷ formcheck ab (file (1 ∷ 1 ∷ 1 ∷ 0 ∷ 3 ∷ 0 ∷ [])) (bytes "<a/>") says refusal 20 3
+    -- 21, at its six places, each after a join that fits: 8 × 8 and 8 × 9 states; 32 × 32 and 32 × 33 rules
+    ∷ join-said (with-rules 8 0 []) (with-rules 8 0 []) (room 6) says count 6
+    ∷ join-said (with-rules 8 0 []) (with-rules 9 0 []) (room 6) says refusal 21 1
+    ∷ join-said (with-rules 1 32 every-content) (with-rules 1 32 every-content) [] says refusal 22 2054
+    ∷ join-said (with-rules 1 32 every-content) (with-rules 1 33 every-content) [] says refusal 21 2
+    -- 8 × 8 and 8 × 9 positions; 32 × 32 and 32 × 33 arcs; 15 + 16 + 1 and 16 + 16 + 1 steps
+    ∷ join-said (one-rule (by-order 8 0)) (one-rule (by-order 8 0)) (room 12) says count 12
+    ∷ join-said (one-rule (by-order 8 0)) (one-rule (by-order 9 0)) (room 12) says refusal 21 3
+    ∷ join-said (one-rule (by-order 1 32)) (one-rule (by-order 1 32)) [] says refusal 22 1036
+    ∷ join-said (one-rule (by-order 1 32)) (one-rule (by-order 1 33)) [] says refusal 21 4
+    ∷ join-said (one-rule (by-count 15)) (one-rule (by-count 16)) (room 136) says count 136
+    ∷ join-said (one-rule (by-count 16)) (one-rule (by-count 16)) (room 136) says refusal 21 5
+    -- 6 + 4 × 4 × (6 + 32 × 32) words
+    ∷ join-said (with-rules 1 4 (by-order 1 32)) (with-rules 1 4 (by-order 1 32)) [] says refusal 21 6
+    -- the first of these: 1 before 2, 2 before 3, 3 before 4, 4 before 5, 5 before 6
+    ∷ join-said (with-rules 8 32 every-content) (with-rules 9 33 every-content) [] says refusal 21 1
+    ∷ join-said (with-rules 1 32 (by-order 8 0)) (with-rules 1 33 (by-order 9 0)) [] says refusal 21 2
+    ∷ join-said (one-rule (by-order 8 32)) (one-rule (by-order 9 33)) [] says refusal 21 3
+    ∷ join-said (one-rule (by-both 1 32 16)) (one-rule (by-both 1 33 16)) [] says refusal 21 4
+    ∷ join-said (with-rules 1 4 (by-both 1 32 16)) (with-rules 1 4 (by-both 1 32 16)) [] says refusal 21 5
+    -- 22: what read, write, file, judge, swap and join need; where there is room, words past the answer keep their contents
+    ∷ read-said ab (bytes " <a>\n<b /> 12 </a> ") (room 11) says refusal 22 12
+    ∷ read-tree ab (bytes "<a>x</a>") (room 9) leaves (1 ∷ 2 ∷ 0 ∷ 0 ∷ 66 ∷ 1 ∷ 3 ∷ 1 ∷ 7 ∷ [])
+    ∷ write-said ab (bytes "x") (around 1) (room 7) says refusal 22 8
+    ∷ write-out ab (bytes "x") (around 1) (room 9) leaves (bytes "<a>x</a>" ++ (7 ∷ []))
+    ∷ from-file-said (file no-rule) (room 5) says refusal 22 6
+    ∷ from-file-sheet (file no-rule) (room 7) leaves (no-rule ++ (7 ∷ []))
+    ∷ judge-said no-rule lone [] says refusal 22 1
+    ∷ judge-said no-rule lone (room 2) says stuck 0 0
+    ∷ judge-states no-rule lone (room 2) leaves (0 ∷ 7 ∷ [])
+    ∷ swap-said no-rule (room 5) says refusal 22 6
+    ∷ swap-out no-rule (room 7) leaves (1 ∷ 1 ∷ 0 ∷ 0 ∷ 2 ∷ 0 ∷ 7 ∷ [])
+    ∷ join-said no-rule (with-rules 2 0 []) (room 5) says refusal 22 6
+    ∷ join-out no-rule (1 ∷ 2 ∷ 2 ∷ 0 ∷ 2 ∷ 0 ∷ []) (room 7) leaves (1 ∷ 2 ∷ 2 ∷ 0 ∷ 2 ∷ 0 ∷ 7 ∷ [])
+    -- a refusal writes nothing
+    ∷ read-tree ab (bytes "<a>x</a>") (room 7) leaves room 7
+    ∷ write-out ab (bytes "x") (around 1) (room 7) leaves room 7
+    ∷ from-file-sheet (file no-rule) (room 5) leaves room 5
+    ∷ judge-states (doubles 2) (3 ∷ 1 ∷ 0 ∷ 0 ∷ []) (room 2) leaves room 2
+    ∷ swap-out no-rule (room 5) leaves room 5
+    ∷ join-out no-rule (with-rules 2 0 []) (room 5) leaves room 5
+    -- 23, at the highest-numbered of two such nodes; it zeroes the first n state words
+    ∷ judge-said (doubles 2) (nested 2) (room 3) says refusal 23 1
+    ∷ judge-states (doubles 2) (nested 2) (room 3) leaves (0 ∷ 0 ∷ 7 ∷ [])
+    -- two at once, in reading: 8 before 1, before 2 to 7; these before 22
+    ∷ read-said [] (xs 65536) [] says refusal 8 0
+    ∷ read-said [] (bytes "&") [] says refusal 8 0
+    ∷ read-said ab (bytes "<a>x</a>&") [] says refusal 2 8
+    -- in writing: 8 before 1; 10 before 11, at whatever nodes; 11 before 22
+    ∷ write-said [] (xs 65536) [] [] says refusal 8 0
+    ∷ write-said ab (bytes "x") (1 ∷ 2 ∷ 0 ∷ 1 ∷ 3 ∷ 1 ∷ 0 ∷ 0 ∷ []) [] says refusal 10 1
+    ∷ write-said ab (bytes "x") (around 2) [] says refusal 11 1
+    -- in judging: 9 before 10, 10 before 22, 22 before 23
+    ∷ judge-said [] [] [] says refusal 9 0
+    ∷ judge-said (doubles 2) (3 ∷ 1 ∷ 0 ∷ 0 ∷ []) [] says refusal 10 0
+    ∷ judge-said (doubles 2) lone [] says refusal 22 1
+    -- with files, in swapping and joining: 9 before 22; 9 of S before 9 of T; 9 of T before 20; 20 before 21; 21 before 22
+    ∷ from-file-said (7 ∷ []) [] says refusal 9 0
+    ∷ swap-said [] [] says refusal 9 0
+    ∷ join-said (one-rule (34 ∷ [])) [] [] says refusal 9 6
+    ∷ join-said no-rule (1 ∷ 1 ∷ 1 ∷ 0 ∷ 3 ∷ 0 ∷ 7 ∷ []) [] says refusal 9 20006
+    ∷ join-said (with-rules 8 0 []) (1 ∷ 9 ∷ 1 ∷ 0 ∷ 3 ∷ 0 ∷ []) [] says refusal 20 3
+    ∷ join-said (with-rules 8 0 []) (with-rules 9 0 []) [] says refusal 21 1
+    -- in formcheck: 8 before 9, 9 before the text, the text before 20, 20 before the run; the run
+    ∷ formcheck [] [] [] says refusal 8 0
+    ∷ formcheck ab [] [] says refusal 9 0
+    ∷ formcheck ab (file (doubles 3)) (bytes "<c/>") says refusal 4 1
+    ∷ formcheck ab (file (doubles 3)) (bytes "<a/>") says refusal 20 3
+    ∷ formcheck ab (file (doubles 2)) (bytes "<a/>") says refusal 23 0
     ∷ []
-
--- ---- a text and a form that are too long, told by their length alone
-
-names-pass : names-of list ≡ passes 2
-unfolding list bytes has every is class-of class-number letter-byte name-byte is-name same-bytes prepend lines number-from tag-of name-of
-    good-line lines-checked names-of
-names-pass = refl
-
-long-text : (n : ℕ) → 65535 < n → read-said list (replicate n 32) [] ≡ refusal 1 65535
-unfolding read-said calls.read form-of _>>=_ _>>_ require answer-of
-long-text n h = rw (names-pass, length-replicate {A = ℕ} n 32, lt-leb n 65535 h)
-
-long-form : (n : ℕ) → 65535 < n → short-enough (replicate n 120) ≡ refuses 24 n
-unfolding short-enough
-long-form n h = rw (length-replicate {A = ℕ} n 120, lt-leb n 65535 h)
 
 -- ---- the theorem
 
 computed : All Holds table
-unfolding Holds table list inside sheet-with bytes both flatMap has every only from row grid _>>=_ _>>_ require room-for answer-of
-    buffer-after size words nodes text-symbol tag-symbol look children-by children tree-of mask set-words signed-word arc-word order-words
-    sum-words step-words count-words rule-words sheet-words small then word one-of all bit members set-below arc-ok arc order signed
-    coefficient sum at-most-step remainder-step one-earlier two-earlier step steps target text-rule tag-rule order-rule count-rule
-    order-count-rule rule sheet ended sheet-of file-words entered next-set last-set meets fits-order reads-from reads occurrences total
-    remainder-of holds truths fits-count at-text at-content at-tag text-targets content-targets element-targets kind of-kind looks-of tries
-    element-looks and-also gist items child-words child-states judge-text judge-element judge-node run last-zero root-verdict verdict
-    swapped lift-order pair-order joint-order coefficient-of lift-sum lift-step joint-count pair-rule joint-rules joint positions-of arcs-of
-    steps-of within-limits class-number is class-of letter-byte name-byte is-name same-bytes digit-byte kind-of-text prepend lines
-    number-from tag-of name-of good-line lines-checked names-of source-bytes tagged written text-byte solid-byte trimmed-text good-text
-    good-words texts-checked short-enough moves move place-number move-number does name-at trimmed text-at behind text-node tag-node outside
-    closed moved state-at refusal-2 refusal-3 refusal-4 innermost refusal-5 start-tag refusal-6 refusal-7 number-at first-refused form-of
-    names-said read-said tree-said write-said sheet-said from-file from-file-said verdict-of judge-said first-states states-after
-    judge-states swap-said swap-out in-second joined join-said join-out calls.read calls.write calls.judge calls.swap calls.join
+unfolding table two-letters inside lone nested with-rules no-rule one-rule every-content loops true-steps by-order by-count by-both doubles
+    ab xs around room times file bytes flatMap has every only from row grid _>>=_ _>>_ require room-for answer-of buffer-after size words
+    nodes text-symbol tag-symbol look children-by children tree-of mask set-words signed-word arc-word order-words sum-words step-words
+    count-words rule-words sheet-words small then word one-of all bit members set-below arc-ok arc order signed coefficient sum at-most-step
+    remainder-step one-earlier two-earlier step steps target text-rule tag-rule order-rule count-rule order-count-rule rule sheet ended
+    sheet-of file-words entered next-set last-set meets fits-order reads-from reads occurrences total remainder-of holds truths fits-count
+    at-text at-content at-tag text-targets content-targets element-targets kind of-kind looks-of tries element-looks and-also gist items
+    child-words child-states judge-text judge-element judge-node run last-zero root-verdict verdict swapped lift-order pair-order
+    joint-order coefficient-of lift-sum lift-step joint-count pair-rule joint-rules joint positions-of arcs-of steps-of within-limits
+    class-number is class-of letter-byte name-byte is-name same-bytes digit-byte kind-of-text prepend lines number-from tag-of name-of
+    good-line lines-checked names-of source-bytes tagged written text-byte solid-byte trimmed-text good-text good-words texts-checked
+    short-enough moves move place-number move-number does name-at trimmed text-at behind text-node tag-node outside closed moved state-at
+    refusal-2 refusal-3 refusal-4 innermost refusal-5 start-tag refusal-6 refusal-7 number-at first-refused form-of names-said read-said
+    tree-said write-said sheet-said from-file from-file-said verdict-of judge-said first-states states-after judge-states swap-said swap-out
+    in-second joined join-said join-out calls.read calls.write calls.judge calls.swap calls.join read-tree write-out from-file-sheet
+    formcheck
 computed =
-    refl and refl and refl and refl and refl and refl and refl and refl and long-text 65536 (omega arith)
-    and refl and refl and refl and refl and refl and refl and refl and refl and refl and refl and refl and refl and refl and refl
-    and refl and refl and refl and refl and refl and refl and refl and refl and refl and refl and refl and refl and refl and refl
-    and refl and refl and refl and refl and refl and refl and refl and refl and refl and refl and refl and refl and refl and refl
-    and refl and refl and refl and refl and refl and refl and refl and refl and refl and refl and refl and refl and refl
-    and long-form 65536 (omega arith)
-    and refl and refl and refl and refl and refl and refl and refl and refl and refl and refl and refl and that-is-all
+    refl and refl and refl and refl and refl and refl and refl and refl and refl and refl and refl and refl and refl and refl and refl and
+    refl and refl and refl and refl and refl and refl and refl and refl and refl and refl and refl and refl and refl and refl and refl and
+    refl and refl and refl and refl and refl and refl and refl and refl and refl and refl and refl and refl and refl and refl and refl and
+    refl and refl and refl and refl and refl and refl and refl and refl and refl and refl and refl and refl and refl and refl and refl and
+    refl and refl and refl and refl and refl and refl and refl and refl and refl and refl and refl and refl and refl and refl and refl and
+    refl and refl and refl and refl and refl and refl and refl and refl and refl and refl and refl and refl and refl and refl and refl and
+    refl and refl and refl and refl and refl and refl and refl and refl and refl and refl and refl and refl and refl and refl and refl and
+    refl and refl and refl and refl and refl and refl and refl and refl and refl and refl and refl and refl and refl and refl and refl and
+    refl and refl and refl and refl and refl and refl and refl and refl and refl and that-is-all
 
-pub refusals-hold : (x : Example) → x ∈ table → Holds x
-refusals-hold = all-∈ Holds computed
+pub refusals-hold : (r : Row) → r ∈ table → Holds r
+refusals-hold = all-∈ computed
