@@ -50,7 +50,7 @@ lone = 1 ∷ 1 ∷ 0 ∷ 0 ∷ []
 nested : ℕ → List ℕ
 nested n = flatMap (λ i. 1 ∷ (n - i) ∷ 0 ∷ 0 ∷ []) (numbers n)
 
--- a sheet of some states, the first of them final, and two tags, with n times the words of a rule; of one state without a rule, with one
+-- a sheet of some states, the first of them final, and two tags, with n times the same rule; of one state without a rule, and with one
 with-rules : (states n : ℕ) (rule : List ℕ) → List ℕ
 with-rules states n rule = (1 ∷ states ∷ 1 ∷ 0 ∷ 2 ∷ n ∷ []) ++ times n rule
 
@@ -60,24 +60,25 @@ no-rule = with-rules 1 0 []
 one-rule : List ℕ → List ℕ
 one-rule rule = with-rules 1 1 rule
 
--- rules for content: all; by an order part with some positions and n loops at 0; by a count part of n steps that are true; by both
-every-content : List ℕ
-every-content = 32 ∷ 0 ∷ []
-
+-- an order part with some positions and n loops at the first; a count part of n steps, each true
 loops : (positions n : ℕ) → List ℕ
 loops positions n = (positions ∷ 1 ∷ 0 ∷ n ∷ []) ++ replicate n 0
 
 true-steps : ℕ → List ℕ
 true-steps n = n ∷ times n (1 ∷ 0 ∷ 0 ∷ 0 ∷ [])
 
-by-order : (positions n : ℕ) → List ℕ
-by-order positions n = 40 ∷ (loops positions n ++ (0 ∷ []))
+-- rules for content: every one; by an order part; by a count part; by both
+every-content : List ℕ
+every-content = 32 ∷ 0 ∷ []
 
-by-count : ℕ → List ℕ
-by-count n = 48 ∷ (true-steps n ++ (0 ∷ []))
+by-order : (positions arcs : ℕ) → List ℕ
+by-order positions arcs = 40 ∷ (loops positions arcs ++ (0 ∷ []))
 
-by-both : (positions n k : ℕ) → List ℕ
-by-both positions n k = 56 ∷ (loops positions n ++ (true-steps k ++ (0 ∷ [])))
+by-count : (steps : ℕ) → List ℕ
+by-count steps = 48 ∷ (true-steps steps ++ (0 ∷ []))
+
+by-both : (positions arcs steps : ℕ) → List ℕ
+by-both positions arcs steps = 56 ∷ (loops positions arcs ++ (true-steps steps ++ (0 ∷ [])))
 
 -- a sheet of two states over some tags, by which an empty a reaches both
 doubles : (tags : ℕ) → List ℕ
@@ -176,7 +177,7 @@ table =
     -- 20: T's tags; the sheet's, beside a name list
     ∷ join-said no-rule (1 ∷ 1 ∷ 1 ∷ 0 ∷ 3 ∷ 0 ∷ []) (room 6) says refusal 20 3
     ∷ formcheck ab (file (1 ∷ 1 ∷ 1 ∷ 0 ∷ 3 ∷ 0 ∷ [])) (bytes "<a/>") says refusal 20 3
-    -- 21, at its six places, each after a join that fits: 8 × 8 and 8 × 9 states; 32 × 32 and 32 × 33 rules
+    -- 21, at its six places, and before five of them a join that fits: 8 × 8 and 8 × 9 states; 32 × 32 and 32 × 33 rules
     ∷ join-said (with-rules 8 0 []) (with-rules 8 0 []) (room 6) says count 6
     ∷ join-said (with-rules 8 0 []) (with-rules 9 0 []) (room 6) says refusal 21 1
     ∷ join-said (with-rules 1 32 every-content) (with-rules 1 32 every-content) [] says refusal 22 2054
@@ -188,14 +189,14 @@ table =
     ∷ join-said (one-rule (by-order 1 32)) (one-rule (by-order 1 33)) [] says refusal 21 4
     ∷ join-said (one-rule (by-count 15)) (one-rule (by-count 16)) (room 136) says count 136
     ∷ join-said (one-rule (by-count 16)) (one-rule (by-count 16)) (room 136) says refusal 21 5
-    -- 6 + 4 × 4 × (6 + 32 × 32) words
-    ∷ join-said (with-rules 1 4 (by-order 1 32)) (with-rules 1 4 (by-order 1 32)) [] says refusal 21 6
+    -- 6 + 16 × (6 + 16 × 64) words
+    ∷ join-said (one-rule (by-order 1 16)) (with-rules 64 16 every-content) [] says refusal 21 6
     -- the first of these: 1 before 2, 2 before 3, 3 before 4, 4 before 5, 5 before 6
     ∷ join-said (with-rules 8 32 every-content) (with-rules 9 33 every-content) [] says refusal 21 1
     ∷ join-said (with-rules 1 32 (by-order 8 0)) (with-rules 1 33 (by-order 9 0)) [] says refusal 21 2
     ∷ join-said (one-rule (by-order 8 32)) (one-rule (by-order 9 33)) [] says refusal 21 3
     ∷ join-said (one-rule (by-both 1 32 16)) (one-rule (by-both 1 33 16)) [] says refusal 21 4
-    ∷ join-said (with-rules 1 4 (by-both 1 32 16)) (with-rules 1 4 (by-both 1 32 16)) [] says refusal 21 5
+    ∷ join-said (one-rule (by-both 1 16 32)) (with-rules 64 16 (by-count 1)) [] says refusal 21 5
     -- 22: what read, write, file, judge, swap and join need; where there is room, words past the answer keep their contents
     ∷ read-said ab (bytes " <a>\n<b /> 12 </a> ") (room 11) says refusal 22 12
     ∷ read-tree ab (bytes "<a>x</a>") (room 9) leaves (1 ∷ 2 ∷ 0 ∷ 0 ∷ 66 ∷ 1 ∷ 3 ∷ 1 ∷ 7 ∷ [])
