@@ -1,6 +1,6 @@
 -- A tree passes exactly when its words are the nodes, in document order, of a form that keeps the rules; and every refusal is 10.
 use mathlib.Core.Path.{_≡_, refl, sym, ap, _∙_}
-use mathlib.Core.Logic.{_↔_}
+use mathlib.Core.Logic.{_↔_, _≢_}
 use mathlib.Core.Bool.{Bool, true, false, _&&_, and-true, and-false}
 use mathlib.Core.List.{List, [], _∷_, _++_, append-assoc, append-nil}
 use Prim.Native.Nat.{ℕ, zero, suc, _+_, _-_, _*_, _/_, _%_, _≤_, _<_}
@@ -252,7 +252,7 @@ module _ (g : ℕ) (t : List ℕ) where
         record { root = refl; keeps = (u, v, omega arith, st .keeps); few = omega (arith, st .count) },
       )
 
-  passed-words : (e : Element) → tree-of g t ≡ passes e → (t ≡ words e) × Over g e
+  pub passed-words : (e : Element) → tree-of g t ≡ passes e → (t ≡ words e) × Over g e
   unfolding tree-of
   passed-words e h =
       let (x, h′) = required _ _ _ _ .0 h in
@@ -281,7 +281,8 @@ module _ (g : ℕ) (t : List ℕ) where
         m .span-is,
       )
 
--- a tree passes exactly when its words are those of a form over g tags, and it passes as that form
+-- A tree passes exactly when its words are those of a form over g tags, and it passes as that form. What passes is such a form for any g
+-- (`passed-words`), but with more than 64 tags not every such form would pass: see `tag-65`.
 pub tree-passes : (g : ℕ) → g ≤ 64 → (t : List ℕ) (e : Element) → (tree-of g t ≡ passes e) ↔ ((t ≡ words e) × Over g e)
 tree-passes g small t e = (passed-words g t e, λ h. words-pass g t small e (h .0) (h .1))
 
@@ -289,6 +290,27 @@ tree-passes g small t e = (passed-words g t e, λ h. words-pass g t small e (h .
 pub tree-unique : (g : ℕ) → g ≤ 64 → (e f : Element) → Over g e → Over g f → words e ≡ words f → e ≡ f
 tree-unique g small e f o p h = passes-inj
     (sym (tree-passes g small (words f) e .1 (sym h, o)) ∙ tree-passes g small (words f) f .1 (refl, p))
+
+-- With 65 tags or more, two forms would have the same words: an empty element with tag 65 has those of an integer text.
+pub tag-65 : (g : ℕ) → 65 ≤ g → (e f : Element) × Over g e × Over g f × (words e ≡ words f) × (e ≢ f)
+unfolding words size is-text
+tag-65 g h = (around (text 1 w), around (tag 65 w ε), of-text, of-tag, refl, λ i. let z : _≡_ {A = ℕ} 0 1 = cc in absurd (omega arith))
+  where
+    w : Span
+    w = record { start = 0; bytes = 0 }
+
+    around : Element → Element
+    around e = tag 1 w (e · ε)
+
+    of-text : Over g (around (text 1 w))
+    of-text = record { root = refl; keeps = (omega arith, omega arith, omega arith, (refl, (omega arith, omega arith), tt)); few = omega arith }
+
+    of-tag : Over g (around (tag 65 w ε))
+    of-tag = record {
+      root = refl;
+      keeps = (omega arith, omega arith, omega arith, (refl, (omega arith, omega arith, omega arith, tt), tt));
+      few = omega arith;
+    }
 
 -- ---- refusals
 
