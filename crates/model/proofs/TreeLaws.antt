@@ -303,7 +303,11 @@ tag-65 g h = (around (text 1 w), around (tag 65 w ε), of-text, of-tag, refl, λ
     around e = tag 1 w (e · ε)
 
     of-text : Over g (around (text 1 w))
-    of-text = record { root = refl; keeps = (omega arith, omega arith, omega arith, (refl, (omega arith, omega arith), tt)); few = omega arith }
+    of-text = record {
+      root = refl;
+      keeps = (omega arith, omega arith, omega arith, (refl, (omega arith, omega arith), tt));
+      few = omega arith;
+    }
 
     of-tag : Over g (around (tag 65 w ε))
     of-tag = record {
