@@ -1,8 +1,8 @@
--- Document 01's cases 1 to 10, and beside them runs that tell each kind of step and the looks of an order part: one table, and one theorem
--- over its rows, closed by computation.
+-- Document 01's cases 1 to 10; beside them runs that tell each kind of step and the looks of an order part, and joins word by word: one
+-- table, and one theorem over its rows, closed by computation.
 use mathlib.Core.Path.{refl}
 use mathlib.Core.List.{List, [], _∷_, _++_, flatMap}
-use Prim.Native.Nat.{ℕ, suc, _*_, _-_}
+use Prim.Native.Nat.{ℕ, suc, _+_, _*_, _-_}
 use Prim.Native.String.{String}
 use lib.IntN.{negsuc}
 use lib.ListN.{length}
@@ -107,6 +107,24 @@ leave r = 2 ∷ 1 ∷ 0 ∷ 1 ∷ 3 ∷ r ∷ []
 minus-leave : ℕ → List ℕ
 minus-leave r = 2 ∷ 1 ∷ 0 ∷ 4294967295 ∷ 3 ∷ r ∷ []
 
+-- ---- joint rules
+
+-- a sheet of p states, the first final, and two tags, with one rule
+one-rule : (p : ℕ) → List ℕ → List ℕ
+one-rule p rule = (1 ∷ p ∷ 1 ∷ 0 ∷ 2 ∷ 1 ∷ []) ++ rule
+
+-- sheets without content rules: final states 0 and 1, and final state 1
+texts-and-tags-S : List ℕ
+texts-and-tags-S = (1 ∷ 2 ∷ 3 ∷ 0 ∷ 2 ∷ 3 ∷ []) ++ (33 ∷ 1 ∷ 0 ∷ []) ++ (33 ∷ 2 ∷ 1 ∷ []) ++ (38 ∷ 1 ∷ 0 ∷ 1 ∷ [])
+
+texts-and-tags-T : List ℕ
+texts-and-tags-T =
+    (1 ∷ 2 ∷ 2 ∷ 0 ∷ 2 ∷ 4 ∷ []) ++ (33 ∷ 2 ∷ 0 ∷ []) ++ (33 ∷ 2 ∷ 1 ∷ []) ++ (38 ∷ 1 ∷ 1 ∷ 0 ∷ []) ++ (38 ∷ 2 ∷ 0 ∷ 0 ∷ [])
+
+-- two rules, over two states each, and their joint rule
+joint-rule : (first second joint : List ℕ) → Row
+joint-rule first second joint = join-out (one-rule 2 first) (one-rule 2 second) (room (6 + length joint)) leaves one-rule 4 joint
+
 -- ---- the table
 
 pub table : List Row
@@ -166,29 +184,44 @@ table =
     -- the last step decides: the first alone; the last alone
     ∷ judge-leaves (counts-by (most 2 ∷ least 3 ∷ [])) 2 says stuck 0 13
     ∷ judge-leaves (counts-by (most 2 ∷ least 3 ∷ [])) 3 says accepted 2 20
+    -- joins, word by word. Rules pair up, S's order outermost, by text kind and by tag; a pair is final if both halves are.
+    ∷ join-out texts-and-tags-S texts-and-tags-T (room 16) leaves (1 ∷ 4 ∷ 10 ∷ 0 ∷ 2 ∷ 3 ∷ 33 ∷ 2 ∷ 2 ∷ 33 ∷ 2 ∷ 3 ∷ 38 ∷ 1 ∷ 1 ∷ 2 ∷ [])
+    -- an order part of S alone, and of T alone: the arc from 0 by 1 to 1, once for each state of the other sheet
+    ∷ joint-rule (40 ∷ 2 ∷ 2 ∷ 0 ∷ 1 ∷ 257 ∷ 1 ∷ []) (32 ∷ 1 ∷ []) (40 ∷ 2 ∷ 2 ∷ 0 ∷ 2 ∷ 513 ∷ 769 ∷ 3 ∷ [])
+    ∷ joint-rule (32 ∷ 1 ∷ []) (40 ∷ 2 ∷ 2 ∷ 0 ∷ 1 ∷ 257 ∷ 1 ∷ []) (40 ∷ 2 ∷ 2 ∷ 0 ∷ 2 ∷ 257 ∷ 769 ∷ 3 ∷ [])
+    -- two order parts: S accepts at 1, T at 0; the pairs of arcs, S outermost
+    ∷ joint-rule (40 ∷ 2 ∷ 2 ∷ 0 ∷ 2 ∷ 257 ∷ 65536 ∷ 1 ∷ []) (40 ∷ 2 ∷ 1 ∷ 0 ∷ 2 ∷ 1 ∷ 65792 ∷ 1 ∷ [])
+    (40 ∷ 4 ∷ 4 ∷ 0 ∷ 4 ∷ 515 ∷ 66306 ∷ 131073 ∷ 196864 ∷ 3 ∷ [])
+    -- a count part of S alone, and of T alone: the coefficient 5 of state 1, for each pair of which it is the half
+    ∷ joint-rule (48 ∷ 1 ∷ 1 ∷ 2 ∷ 0 ∷ 5 ∷ 7 ∷ 1 ∷ []) (32 ∷ 1 ∷ []) (48 ∷ 1 ∷ 1 ∷ 12 ∷ 0 ∷ 5 ∷ 5 ∷ 7 ∷ 3 ∷ [])
+    ∷ joint-rule (32 ∷ 1 ∷ []) (48 ∷ 1 ∷ 1 ∷ 2 ∷ 0 ∷ 5 ∷ 7 ∷ 1 ∷ []) (48 ∷ 1 ∷ 1 ∷ 10 ∷ 0 ∷ 5 ∷ 5 ∷ 7 ∷ 3 ∷ [])
+    -- two count parts: S first, step numbers shifted, closed by an and
+    ∷ joint-rule (48 ∷ 2 ∷ 1 ∷ 2 ∷ 0 ∷ 5 ∷ 7 ∷ 3 ∷ 0 ∷ 1 ∷ []) (48 ∷ 2 ∷ 2 ∷ 2 ∷ 0 ∷ 6 ∷ 4 ∷ 1 ∷ 3 ∷ 0 ∷ 1 ∷ [])
+    (48 ∷ 5 ∷ 1 ∷ 12 ∷ 0 ∷ 5 ∷ 5 ∷ 7 ∷ 3 ∷ 0 ∷ 2 ∷ 10 ∷ 0 ∷ 6 ∷ 6 ∷ 4 ∷ 1 ∷ 3 ∷ 2 ∷ 4 ∷ 1 ∷ 3 ∷ 3 ∷ [])
     ∷ []
 
 -- ---- the theorem
 
 computed : All Holds table
 unfolding table list rules-of-S S S-plus S-swapped T bare-sheet check with-leaves judge-leaves two-leaves counts-by most least leave
-    minus-leave room times file bytes flatMap has every only from row grid _>>=_ _>>_ require room-for answer-of buffer-after size words
-    is-text nodes text-symbol tag-symbol look children-by children tree-of without-starts mask set-words signed-word arc-word order-words
-    sum-words step-words count-words rule-words sheet-words small then word one-of all bit members set-below arc-ok arc order signed
-    coefficient sum at-most-step remainder-step one-earlier two-earlier step steps target text-rule tag-rule order-rule count-rule
-    order-count-rule rule sheet ended sheet-of file-words entered next-set last-set meets fits-order reads-from reads occurrences total
-    remainder-of holds truths fits-count at-text at-content at-tag text-targets content-targets element-targets kind of-kind looks-of tries
-    element-looks and-also gist items child-words child-states judge-text judge-element judge-node run last-zero root-verdict verdict
-    swapped lift-order pair-order joint-order coefficient-of lift-sum lift-step joint-count pair-rule joint-rules joint positions-of arcs-of
-    steps-of within-limits class-number is class-of letter-byte name-byte is-name same-bytes digit-byte kind-of-text prepend lines
-    number-from tag-of name-of good-line lines-checked names-of moves move place-number move-number does name-at trimmed text-at behind
-    text-node tag-node outside closed moved state-at refusal-2 refusal-3 refusal-4 innermost refusal-5 start-tag refusal-6 refusal-7
-    number-at first-refused form-of read read-tree verdict-of swap swap-out in-second joined join join-said join-out judge judge-said
-    formcheck digits decimal field line-of formcheck-line
+    minus-leave one-rule texts-and-tags-S texts-and-tags-T joint-rule room times file bytes flatMap has every only from row grid _>>=_ _>>_
+    require room-for answer-of buffer-after size words is-text nodes text-symbol tag-symbol look children-by children tree-of without-starts
+    mask set-words signed-word arc-word order-words sum-words step-words count-words rule-words sheet-words small then word one-of all bit
+    members set-below arc-ok arc order signed coefficient sum at-most-step remainder-step one-earlier two-earlier step steps target
+    text-rule tag-rule order-rule count-rule order-count-rule rule sheet ended sheet-of file-words entered next-set last-set meets
+    fits-order reads-from reads occurrences total remainder-of holds truths fits-count at-text at-content at-tag text-targets
+    content-targets element-targets kind of-kind looks-of tries element-looks and-also gist items child-words child-states judge-text
+    judge-element judge-node run last-zero root-verdict verdict swapped lift-order pair-order joint-order coefficient-of lift-sum lift-step
+    joint-count pair-rule joint-rules joint positions-of arcs-of steps-of within-limits class-number is class-of letter-byte name-byte
+    is-name same-bytes digit-byte kind-of-text prepend lines number-from tag-of name-of good-line lines-checked names-of moves move
+    place-number move-number does name-at trimmed text-at behind text-node tag-node outside closed moved state-at refusal-2 refusal-3
+    refusal-4 innermost refusal-5 start-tag refusal-6 refusal-7 number-at first-refused form-of read read-tree verdict-of swap swap-out
+    in-second joined join join-said join-out judge judge-said formcheck digits decimal field line-of formcheck-line
 computed =
     refl and refl and refl and refl and refl and refl and refl and refl and refl and refl and refl and refl and refl and refl and refl and
     refl and refl and refl and refl and refl and refl and refl and refl and refl and refl and refl and refl and refl and refl and refl and
-    refl and refl and refl and refl and refl and refl and refl and refl and that-is-all
+    refl and refl and refl and refl and refl and refl and refl and refl and refl and refl and refl and refl and refl and refl and refl and
+    that-is-all
 
 pub cases-hold : (r : Row) → r ∈ table → Holds r
 cases-hold = all-∈ computed
