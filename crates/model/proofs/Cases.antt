@@ -100,7 +100,7 @@ most k = 1 ∷ 1 ∷ 0 ∷ 1 ∷ k ∷ []
 least : ℕ → List ℕ
 least k = 1 ∷ 1 ∷ 0 ∷ 4294967295 ∷ (4294967296 - k) ∷ []
 
--- what the number of leaves leaves on division by 3; what minus that number leaves
+-- the number of leaves leaves r on division by 3; minus that number does
 leave : ℕ → List ℕ
 leave r = 2 ∷ 1 ∷ 0 ∷ 1 ∷ 3 ∷ r ∷ []
 
@@ -110,8 +110,8 @@ minus-leave r = 2 ∷ 1 ∷ 0 ∷ 4294967295 ∷ 3 ∷ r ∷ []
 -- ---- joint rules
 
 -- a sheet of p states, the first final, and two tags, with one rule
-one-rule : (p : ℕ) → List ℕ → List ℕ
-one-rule p rule = (1 ∷ p ∷ 1 ∷ 0 ∷ 2 ∷ 1 ∷ []) ++ rule
+sheet-with : (p : ℕ) → List ℕ → List ℕ
+sheet-with p rule = (1 ∷ p ∷ 1 ∷ 0 ∷ 2 ∷ 1 ∷ []) ++ rule
 
 -- sheets without content rules: final states 0 and 1, and final state 1
 texts-and-tags-S : List ℕ
@@ -123,7 +123,7 @@ texts-and-tags-T =
 
 -- two rules, over two states each, and their joint rule
 joint-rule : (first second joint : List ℕ) → Row
-joint-rule first second joint = join-out (one-rule 2 first) (one-rule 2 second) (room (6 + length joint)) leaves one-rule 4 joint
+joint-rule first second joint = join-out (sheet-with 2 first) (sheet-with 2 second) (room (6 + length joint)) leaves sheet-with 4 joint
 
 -- ---- the table
 
@@ -204,7 +204,7 @@ table =
 
 computed : All Holds table
 unfolding table list rules-of-S S S-plus S-swapped T bare-sheet check with-leaves judge-leaves two-leaves counts-by most least leave
-    minus-leave one-rule texts-and-tags-S texts-and-tags-T joint-rule room times file bytes flatMap has every only from row grid _>>=_ _>>_
+    minus-leave sheet-with texts-and-tags-S texts-and-tags-T joint-rule room times file bytes flatMap has every only from row grid _>>=_ _>>_
     require room-for answer-of buffer-after size words is-text nodes text-symbol tag-symbol look children-by children tree-of without-starts
     mask set-words signed-word arc-word order-words sum-words step-words count-words rule-words sheet-words small then word one-of all bit
     members set-below arc-ok arc order signed coefficient sum at-most-step remainder-step one-earlier two-earlier step steps target
