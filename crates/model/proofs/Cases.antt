@@ -27,8 +27,8 @@ use Rattle.model.specs.Names.{prepend, lines, number-from, tag-of, name-
 use Rattle.model.specs.Text.{moves, move, place-number, move-number, does, name-at, trimmed, text-at, behind, text-node, tag-node}
 use Rattle.model.specs.Text.{outside, closed, moved, state-at, refusal-2, refusal-3, refusal-4, innermost, refusal-5, start-tag}
 use Rattle.model.specs.Text.{refusal-6, refusal-7, number-at, first-refused, form-of}
-use Rattle.model.specs.Calls.{judge, judge-said, read, read-tree, verdict-of, swap, swap-out, in-second, joined, join, join-said}
-use Rattle.model.specs.Calls.{join-out, formcheck}
+use Rattle.model.specs.Calls.{read, read-tree, judge, verdict-of, judge-said, first-states, states-after, judge-states, swap, swap-out}
+use Rattle.model.specs.Calls.{in-second, joined, join, join-said, join-out, formcheck}
 use Rattle.model.specs.Line.{bytes, digits, decimal, field, line-of, formcheck-line}
 use Rattle.model.proofs.Examples.{Row, _says_, _leaves_, _gives_, _stays-within_, Holds, All, that-is-all, _and_, all-∈, room, times}
 use Rattle.model.proofs.Examples.{file}
@@ -158,7 +158,13 @@ table =
     ∷ join-said (bare-sheet 5) (bare-sheet 13) (room 6) says refusal 21 1
     -- 10: −1 leaves 2 on division by 3
     ∷ remainder-of (negsuc 0) 3 gives 2
-    -- Beside these: an order part. The third leaf empties the set of positions and is read, a fourth is not read.
+    -- Beside these: an integer has no state by S, and stuck names the highest-numbered node without one.
+    ∷ check S "<units>12</units>" says stuck 1 1
+    ∷ judge-said (counts-by (least 3 ∷ [])) (1 ∷ 3 ∷ 0 ∷ 0 ∷ 1 ∷ 1 ∷ 0 ∷ 0 ∷ 1 ∷ 1 ∷ 0 ∷ 0 ∷ []) (room 3) says stuck 2 8
+    -- the state words: state + 1 or 0
+    ∷ judge-states two-leaves (with-leaves 2) (room 3) leaves (2 ∷ 1 ∷ 1 ∷ [])
+    ∷ judge-states two-leaves (with-leaves 3) (room 4) leaves (0 ∷ 1 ∷ 1 ∷ 1 ∷ [])
+    -- an order part: the third leaf empties the set of positions and is read; a fourth is not read
     ∷ judge-leaves two-leaves 2 says accepted 1 11
     ∷ judge-leaves two-leaves 3 says stuck 0 13
     ∷ judge-leaves two-leaves 4 says stuck 0 16
@@ -204,11 +210,11 @@ table =
 
 computed : All Holds table
 unfolding table list rules-of-S S S-plus S-swapped T bare-sheet check with-leaves judge-leaves two-leaves counts-by most least leave
-    minus-leave sheet-with texts-and-tags-S texts-and-tags-T joint-rule room times file bytes flatMap has every only from row grid _>>=_ _>>_
-    require room-for answer-of buffer-after size words is-text nodes text-symbol tag-symbol look children-by children tree-of without-starts
-    mask set-words signed-word arc-word order-words sum-words step-words count-words rule-words sheet-words small then word one-of all bit
-    members set-below arc-ok arc order signed coefficient sum at-most-step remainder-step one-earlier two-earlier step steps target
-    text-rule tag-rule order-rule count-rule order-count-rule rule sheet ended sheet-of file-words entered next-set last-set meets
+    minus-leave sheet-with texts-and-tags-S texts-and-tags-T joint-rule room times file bytes flatMap has every only from row grid _>>=_
+    _>>_ require room-for answer-of buffer-after size words is-text nodes text-symbol tag-symbol look children-by children tree-of
+    without-starts mask set-words signed-word arc-word order-words sum-words step-words count-words rule-words sheet-words small then word
+    one-of all bit members set-below arc-ok arc order signed coefficient sum at-most-step remainder-step one-earlier two-earlier step steps
+    target text-rule tag-rule order-rule count-rule order-count-rule rule sheet ended sheet-of file-words entered next-set last-set meets
     fits-order reads-from reads occurrences total remainder-of holds truths fits-count at-text at-content at-tag text-targets
     content-targets element-targets kind of-kind looks-of tries element-looks and-also gist items child-words child-states judge-text
     judge-element judge-node run last-zero root-verdict verdict swapped lift-order pair-order joint-order coefficient-of lift-sum lift-step
@@ -216,12 +222,13 @@ unfolding table list rules-of-S S S-plus S-swapped T bare-sheet check with-leave
     is-name same-bytes digit-byte kind-of-text prepend lines number-from tag-of name-of good-line lines-checked names-of moves move
     place-number move-number does name-at trimmed text-at behind text-node tag-node outside closed moved state-at refusal-2 refusal-3
     refusal-4 innermost refusal-5 start-tag refusal-6 refusal-7 number-at first-refused form-of read read-tree verdict-of swap swap-out
-    in-second joined join join-said join-out judge judge-said formcheck digits decimal field line-of formcheck-line
+    in-second joined join join-said join-out judge judge-said first-states states-after judge-states formcheck digits decimal field line-of
+    formcheck-line
 computed =
     refl and refl and refl and refl and refl and refl and refl and refl and refl and refl and refl and refl and refl and refl and refl and
     refl and refl and refl and refl and refl and refl and refl and refl and refl and refl and refl and refl and refl and refl and refl and
     refl and refl and refl and refl and refl and refl and refl and refl and refl and refl and refl and refl and refl and refl and refl and
-    that-is-all
+    refl and refl and refl and refl and that-is-all
 
 pub cases-hold : (r : Row) → r ∈ table → Holds r
 cases-hold = all-∈ computed
