@@ -27,8 +27,8 @@ use Rattle.model.specs.Names.{prepend, lines, number-from, tag-of, name-
 use Rattle.model.specs.Text.{moves, move, place-number, move-number, does, name-at, trimmed, text-at, behind, text-node, tag-node}
 use Rattle.model.specs.Text.{outside, closed, moved, state-at, refusal-2, refusal-3, refusal-4, innermost, refusal-5, start-tag}
 use Rattle.model.specs.Text.{refusal-6, refusal-7, number-at, first-refused, form-of}
-use Rattle.model.specs.Calls.{read, read-tree, judge, verdict-of, judge-said, first-states, states-after, judge-states, swap, swap-out}
-use Rattle.model.specs.Calls.{in-second, joined, join, join-said, join-out, formcheck}
+use Rattle.model.specs.Calls.{read, read-tree, judge, verdict-of, judge-said, first-states, states-after, judge-states, swap}
+use Rattle.model.specs.Calls.{swap-out, in-second, joined, join, join-said, join-out, formcheck}
 use Rattle.model.specs.Line.{bytes, digits, decimal, field, line-of, formcheck-line}
 use Rattle.model.proofs.Examples.{Row, _says_, _leaves_, _gives_, _stays-within_, Holds, All, that-is-all, _and_, all-∈, room, times}
 use Rattle.model.proofs.Examples.{file}

@@ -8,7 +8,7 @@ use lib.ListN.{replicate}
 use Rattle.model.specs.Lists.{_∈_}
 use Rattle.model.specs.Answers.{Said}
 
--- A row: a call on its input, and what it says; a lent buffer after a call, and the words in it; a number, and its value or its limit.
+-- A row: a call on its input, and what it says; what it leaves in a lent buffer, or prints; a number, and its value or its limit.
 infix 70 _says_ _leaves_ _gives_ _stays-within_
 pub data Row : Type 0 where
   _says_ : (call said : Said) → Row
