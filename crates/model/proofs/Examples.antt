@@ -22,6 +22,7 @@ Holds (buffer leaves words) = buffer ≡ words
 Holds (number gives value) = number ≡ value
 Holds (number stays-within limit) = leb number limit ≡ true
 
+-- a property of every row
 infixr 20 _and_
 pub data All (P : Row → Type 0) : List Row → Type 0 where
   that-is-all : All P []
