@@ -149,7 +149,7 @@ module _ {s index tree : List ℕ} {n : ℕ} (h : Indexed s index) (f : Form s t
       let R = rules-in s in
       let (w, o) = tree-passes (sheet-in s .tags) few-tags tree (f .form) .0 (f .as-tree) in
       let formed = over-formed (sheet-in s .tags) few-tags (f .form) o in
-      let says : RunSays R (f .form) (ran st m) = rw (← w, e) at (run-says R (f .form) formed) in
+      let says : RunSays R (f .form) (ran st m) = rw (← w, e) at (run-says (sheet-in s) (in-range (h .sheet)) (f .form) formed) in
       let most = in-range (h .sheet) .few-rules in
       let a : size (f .form) * length R ≤ 4096 * length R = mul-le-mul-right (length R) (o .few) in
       let b : 2 * size (f .form) * length R ≡ 2 * (size (f .form) * length R) = omega arith in
