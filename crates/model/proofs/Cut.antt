@@ -1,6 +1,6 @@
 -- Files that are longer than any that passes: what formcheck says is decided by the first 1,601 bytes of the name list, the first
 -- 16,385 words of the sheet's file and the first 65,536 bytes of the form. So a program may leave the rest unread.
-use mathlib.Core.Path.{_≡_, refl, sym, ap, _∙_, subst}
+use mathlib.Core.Path.{_≡_, refl, sym, ap, _∙_}
 use mathlib.Core.Bool.{Bool, true, false, cond}
 use mathlib.Core.List.{List, [], _∷_, _++_, append-assoc, append-nil}
 use Prim.Native.Nat.{ℕ, zero, suc, _+_, _-_, _*_, _≤_, _<_}
@@ -12,13 +12,14 @@ use borrow.Author.Tests.{leb-true, leb-false, lt-leb}
 use Rattle.model.specs.Answers.{Checked, passes, refuses, _>>=_, _>>_, require}
 use Rattle.model.specs.Sheet.{Sheet, Got, got, bad, sheet, ended, sheet-of, file-words}
 use Rattle.model.specs.Bytes.{line-feed}
-use Rattle.model.specs.Names.{prepend, lines, bare, good-line, lines-checked, names-of}
+use Rattle.model.specs.Names.{lines, bare, good-line, lines-checked, names-of}
 use Rattle.model.specs.Text.{form-of}
 use Rattle.model.specs.Calls.{formcheck}
-use Rattle.model.proofs.Tests.{never, Told, yea, nay, told, same}
+use Rattle.model.proofs.Tests.{never, Told, yea, nay, told}
 use Rattle.model.proofs.CheckLaws.{refuses≢passes}
 use Rattle.model.proofs.SheetCode.{sheet-passes}
 use Rattle.model.proofs.NameLaws.{GoodLine, good-line-is}
+use Rattle.model.proofs.ListLines.{Free, Lines, no-line, open-line, line, by-lines, ended-line, line-first, open-first, last-free}
 
 -- a list within n, or one of which the first n are n
 cut-cases : {A P : Type 0} (n : ℕ) (s : List A) → (take n s ≡ s → P) → (n < length s → length (take n s) ≡ n → P) → P
@@ -89,50 +90,6 @@ pub sheet-cut : (b : List ℕ) {q : ℕ} → 16385 ≤ q → sheet-of (file-word
 sheet-cut b {q} h = ap sheet-of (words-cut q b) ∙ sheet-words-cut (file-words b) h
 
 -- ---- the name list
-
--- bytes without a line feed
-abbrev Free : List ℕ → Type 0
-Free [] = Unit {0}
-Free (b ∷ l) = (eqb b line-feed ≡ false) × Free l
-
--- bytes line by line; the last line may lack its line feed
-data Lines : List ℕ → Type 0 where
-  no-line : Lines []
-  open-line : (b : ℕ) (l : List ℕ) → Free (b ∷ l) → Lines (b ∷ l)
-  line : (l rest : List ℕ) → Free l → Lines rest → Lines (l ++ (line-feed ∷ rest))
-
-one-more : (b : ℕ) {s : List ℕ} → Told (eqb b line-feed) → Lines s → Lines (b ∷ s)
-one-more b {s} (yea t) v = subst (λ (x : ℕ). Lines (x ∷ s)) (sym (same b line-feed t)) (line [] s tt v)
-one-more b (nay t) no-line = open-line b [] (t, tt)
-one-more b (nay t) (open-line c l f) = open-line b (c ∷ l) (t, f)
-one-more b (nay t) (line l rest f v) = line (b ∷ l) rest (t, f) v
-
-by-lines : (s : List ℕ) → Lines s
-by-lines [] = no-line
-by-lines (b ∷ s) = one-more b (told (eqb b line-feed)) (by-lines s)
-
-abbrev ended-line : List ℕ → List ℕ
-ended-line l = l ++ (line-feed ∷ [])
-
--- a line and the lines after it; a line that lacks its line feed goes on with what follows
-line-first : (l rest : List ℕ) → Free l → lines (l ++ (line-feed ∷ rest)) ≡ ended-line l ∷ lines rest
-unfolding lines prepend
-line-first [] rest f = refl
-line-first (b ∷ l) rest (t, f) = rw (t, line-first l rest f)
-
-prepended : (b : ℕ) (ls : List (List ℕ)) → prepend b ls ≡ (b ∷ getD ls 0 []) ∷ drop 1 ls
-unfolding prepend
-prepended b [] = refl
-prepended b (l ∷ ls) = refl
-
-open-first : (b : ℕ) (l more : List ℕ) → Free (b ∷ l) → lines ((b ∷ l) ++ more) ≡ ((b ∷ l) ++ getD (lines more) 0 []) ∷ drop 1 (lines more)
-unfolding lines prepend
-open-first b [] more (t, f) = rw t (prepended b (lines more))
-open-first b (c ∷ l) more (t, f) = rw (t, open-first c l more f)
-
-last-free : (b : ℕ) (l : List ℕ) → Free (b ∷ l) → eqb (getD (b ∷ l) (length l) 0) line-feed ≡ false
-last-free b [] (t, f) = t
-last-free b (c ∷ l) (t, f) = last-free c l f
 
 -- ---- one line after the lines that are done
 

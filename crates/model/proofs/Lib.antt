@@ -27,6 +27,8 @@ pub mod JoinRange
 pub mod SwapLaws
 pub mod Demand3
 pub mod NameLaws
+pub mod ListLines
+pub mod NameList
 pub mod Answered
 pub mod ByteLaws
 pub mod DocumentLaws

@@ -145,7 +145,7 @@ module _ (list : List ℕ) (g : ℕ) (checked : names-of list ≡ passes g) wher
   pub lines-counted : length (lines list) ≡ g
   lines-counted = omega (arith, facts .0)
 
-  line-at : (j : ℕ) → j < g → GoodLine (lines list) j (getD (lines list) j [])
+  pub line-at : (j : ℕ) → j < g → GoodLine (lines list) j (getD (lines list) j [])
   line-at j h = good-line-is (lines list) j (getD (lines list) j [])
       (rw zero-add at (good-at (lines list) 0 (lines list) (facts .1) j (omega (arith, facts .0))))
 

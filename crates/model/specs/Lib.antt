@@ -12,5 +12,6 @@ pub mod Bytes
 pub mod Names
 pub mod Text
 pub mod Written
+pub mod Grammar
 pub mod Calls
 pub mod Line
