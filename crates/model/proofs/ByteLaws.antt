@@ -96,13 +96,13 @@ not-less : (b : ℕ) → Yes (text-byte b) → is (class-of b) less ≡ false
 unfolding is class-number
 not-less b t = text-cases (λ c. is c less ≡ false) refl refl refl refl refl refl b t
 
--- a text that ends in a byte that is not white goes on up to the next <
-pub text-at-end : (b : ℕ) (t s : List ℕ) → Yes (every text-byte (b ∷ t)) → Yes (solid-byte (getD (b ∷ t) (length t) 0))
-    → text-at ((b ∷ t) ++ (60 ∷ s)) ≡ b ∷ t
-unfolding text-at trimmed solid-byte is class-of class-number
-text-at-end b [] s h last = rw (not-less b (every-cons text-byte b [] h .0), yes-not (is (class-of b) white) last)
-text-at-end b (d ∷ t) s h last = let (u, v) = every-cons text-byte b (d ∷ t) h in rw (not-less b u)
-    (ap (trimmed b) (text-at-end d t s v last))
+-- a text that ends in a byte that is not white goes on up to what begins no text
+pub text-at-end : (b : ℕ) (t r : List ℕ) → Yes (every text-byte (b ∷ t)) → Yes (solid-byte (getD (b ∷ t) (length t) 0)) → text-at r ≡ []
+    → text-at ((b ∷ t) ++ r) ≡ b ∷ t
+unfolding text-at trimmed solid-byte
+text-at-end b [] r h last e = rw (not-less b (every-cons text-byte b [] h .0), e, yes-not (is (class-of b) white) last)
+text-at-end b (d ∷ t) r h last e = let (u, v) = every-cons text-byte b (d ∷ t) h in rw (not-less b u)
+    (ap (trimmed b) (text-at-end d t r v last e))
 
 -- a trimmed text, test by test
 pub trimmed-cons : (b : ℕ) (t : List ℕ) → Yes (trimmed-text (b ∷ t))

@@ -15,7 +15,7 @@ use Rattle.model.specs.Bytes.{Class, white, letter, forbidden, class-num
 use Rattle.model.specs.Names.{tag-of}
 use Rattle.model.specs.Text.{Place, before, root-open, blank, in-text, tag-open, start-name, start-slash, end-open, end-name, after}
 use Rattle.model.specs.Text.{Move, to, opens, begins, names, closes, stops, moves, move, place-number, move-number, does, Open, State}
-use Rattle.model.specs.Text.{start, name-at, behind, text-node, tag-node, outside, closed, moved, innermost, start-tag, refusal-2}
+use Rattle.model.specs.Text.{start, name-at, text-at, behind, text-node, tag-node, outside, closed, moved, innermost, start-tag, refusal-2}
 use Rattle.model.specs.Text.{refusal-3, refusal-4, refusal-5, refusal-6, refusal-7, number-at, form-of, state, an-open, scan}
 use Rattle.model.specs.Written.{text-byte, solid-byte, trimmed-text}
 use Rattle.model.proofs.ListLaws.{every-cons}
@@ -28,12 +28,12 @@ abbrev pub content-place : Bool → Place
 content-place after-text = cond after-text in-text blank
 
 -- a byte of class c, at place p, does m and is allowed
-abbrev Does : Place → Move → Class → Type 0
+abbrev pub Does : Place → Move → Class → Type 0
 Does p m c = (move p c ≡ m) × (is c forbidden ≡ false)
 
 module _ (list : List ℕ) where
   -- the number that refuses an allowed byte that does m
-  abbrev number-by : State → ℕ → List ℕ → Move → ℕ
+  abbrev pub number-by : State → ℕ → List ℕ → Move → ℕ
   number-by st b s m =
       cond (does m stops) 3
       (cond (does m opens && eqb (tag-of list (name-at (b ∷ s))) 0) 4
@@ -56,7 +56,7 @@ module _ (list : List ℕ) where
   nothing {st} {i} {rest} = let e : i ≡ i + 0 = omega arith in record { goes = ap (λ (j : ℕ). scan list st j rest) e }
 
   -- a byte that is not refused, and then others
-  byte : {i b : ℕ} {xs rest : List ℕ} {p : Place} {c : Document} {os : List Open} {n : ℕ} {st′ : State} (m : Move)
+  pub byte : {i b : ℕ} {xs rest : List ℕ} {p : Place} {c : Document} {os : List Open} {n : ℕ} {st′ : State} (m : Move)
       → Does p m (class-of b) → number-by (state p c os n) b (xs ++ rest) m ≡ 0 → Scans (moved list (state p c os n) i (b ∷ (xs ++ rest)) m)
       (suc i) xs rest st′
       → Scans (state p c os n) i (b ∷ xs) rest st′
@@ -66,7 +66,7 @@ module _ (list : List ℕ) where
       record { goes = rw (f, e) (rw z (r .goes ∙ ap (λ (j : ℕ). scan list st′ j rest) on)) }
 
   -- bytes that each stay at a place
-  run : (p : Place) (test : ℕ → Bool) {c : Document} {os : List Open} {n i : ℕ} {rest : List ℕ}
+  pub run : (p : Place) (test : ℕ → Bool) {c : Document} {os : List Open} {n i : ℕ} {rest : List ℕ}
       → ((b : ℕ) → Yes (test b) → Does p (to p) (class-of b)) → ((b : ℕ) (s : List ℕ) → number-by (state p c os n) b s (to p) ≡ 0)
       → (bytes : List ℕ) → Yes (every test bytes) → Scans (state p c os n) i bytes rest (state p c os n)
   unfolding moved
@@ -78,7 +78,7 @@ module _ (list : List ℕ) where
   -- ---- texts
 
   -- the first byte of a text
-  text-begins : (b : ℕ) → Yes (text-byte b) → Yes (solid-byte b) → Does blank begins (class-of b)
+  pub text-begins : (b : ℕ) → Yes (text-byte b) → Yes (solid-byte b) → Does blank begins (class-of b)
   unfolding solid-byte move moves is class-number
   text-begins =
       text-cases (λ k. Yes (not (is k white)) → Does blank begins k)
@@ -87,13 +87,13 @@ module _ (list : List ℕ) where
   -- a text, up to the < behind it
   pub text-run : {c : Document} {os : List Open} {n i : ℕ} {rest : List ℕ} (bytes : List ℕ) → Yes (trimmed-text bytes) → n < 4096
       → Scans (state blank c os n) i bytes (60 ∷ rest) (state in-text (behind c (text-node i bytes)) os (suc n))
-  unfolding trimmed-text moved move moves is class-number does move-number place-number start-tag
+  unfolding text-at trimmed-text moved move moves is class-of class-number does move-number place-number start-tag
   text-run [] t room = never t
   text-run {c} {os} {n} {i} {rest} (b ∷ bytes) t room =
       let (first, last, all) = trimmed-cons b bytes t in
       let (u, v) = every-cons text-byte b bytes all in
       subst (λ (l : List ℕ). Scans (state blank c os n) i (b ∷ bytes) (60 ∷ rest) (state in-text (behind c (text-node i l)) os (suc n)))
-      (text-at-end b bytes rest all last)
+      (text-at-end b bytes (60 ∷ rest) all last refl)
       (byte begins (text-begins b u first) (rw (lt-leb 4096 n room))
       (run in-text text-byte
       (text-cases (Does in-text (to in-text)) (refl, refl) (refl, refl) (refl, refl) (refl, refl) (refl, refl) (refl, refl))
@@ -108,7 +108,7 @@ module _ (list : List ℕ) where
     pub some : a ≢ 0
 
   -- up to a byte that no name has, the name is that of the tag
-  tag-here : (name : List ℕ) {a : ℕ} → Listed name a → (z : ℕ) (rest : List ℕ) → name-byte z ≡ false → tag-of list
+  pub tag-here : (name : List ℕ) {a : ℕ} → Listed name a → (z : ℕ) (rest : List ℕ) → name-byte z ≡ false → tag-of list
       (name-at (name ++ (z ∷ rest))) ≡ a
   tag-here name l z rest stop = ap (tag-of list) (name-at-end name z rest (l .named) stop) ∙ l .tag-is
 
@@ -131,7 +131,7 @@ module _ (list : List ℕ) where
   in-content false = record { less-moves = (refl, refl); letter-opens = (refl, refl); less-number = λ st s. refl }
 
   -- a start tag's < and name
-  start-run : {p q : Place} {c : Document} {os : List Open} {n i z : ℕ} {rest : List ℕ} (name : List ℕ) {a : ℕ}
+  pub start-run : {p q : Place} {c : Document} {os : List Open} {n i z : ℕ} {rest : List ℕ} (name : List ℕ) {a : ℕ}
       → Leads p q → Listed name a → length os < 32 → n < 4096 → name-byte z ≡ false
       → Scans (state p c os n) i (60 ∷ name) (z ∷ rest) (state start-name ε (an-open a c ∷ os) (suc n))
   unfolding is-name moved move moves is class-number does move-number place-number start-tag
