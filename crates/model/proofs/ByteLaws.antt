@@ -1,13 +1,14 @@
 -- Classes of bytes: what a test of a byte says of its class, and how far a name and a text go on.
 use mathlib.Core.Path.{_≡_, refl, sym, ap, subst, _∙_}
 use mathlib.Core.Logic.{_⊎_, inl, inr}
-use mathlib.Core.Bool.{false, not, _&&_, _||_}
+use mathlib.Core.Bool.{Bool, true, false, cond, not, _&&_, _||_}
 use mathlib.Core.List.{List, [], _∷_, _++_}
 use Prim.Native.Nat.{ℕ}
+use lib.Dec.{eqb}
 use lib.ListN.{length, getD}
 use Rattle.model.specs.Lists.{every}
 use Rattle.model.specs.Bytes.{Class, white, letter, digit, hyphen, less, greater, slash, other, forbidden, class-number, is, class-of}
-use Rattle.model.specs.Bytes.{letter-byte, name-byte, is-name}
+use Rattle.model.specs.Bytes.{within, less-byte, greater-byte, slash-byte, letter-byte, name-byte, is-name}
 use Rattle.model.specs.Text.{name-at, trimmed, text-at}
 use Rattle.model.specs.Written.{text-byte, solid-byte, trimmed-text}
 use Rattle.model.proofs.ListLaws.{every-cons}
@@ -32,9 +33,56 @@ numbered-back other = refl
 numbered-back forbidden = refl
 
 -- a class that tests as k is k
-is-class : (c k : Class) → Yes (is c k) → c ≡ k
+pub is-class : (c k : Class) → Yes (is c k) → c ≡ k
 unfolding is
 is-class c k t = sym (numbered-back c) ∙ ap numbered (same (class-number c) (class-number k) t) ∙ numbered-back k
+
+-- a byte by its class: <, > and / are one byte each
+data Of (b : ℕ) : Class → Type 0 where
+  a-white : Of b white
+  a-letter : Of b letter
+  a-digit : Of b digit
+  a-hyphen : Of b hyphen
+  a-less : b ≡ less-byte → Of b less
+  a-greater : b ≡ greater-byte → Of b greater
+  a-slash : b ≡ slash-byte → Of b slash
+  an-other : Of b other
+  a-forbidden : Of b forbidden
+
+of-class : (b : ℕ) → Of b (class-of b)
+unfolding class-of
+of-class b =
+    test (eqb b 9 || (eqb b 10 || (eqb b 13 || eqb b 32))) (λ y. a-white)
+    (test (within 65 90 b || within 97 122 b) (λ y. a-letter)
+    (test (within 48 57 b) (λ y. a-digit)
+    (test (eqb b 45) (λ y. a-hyphen)
+    (test (eqb b less-byte) (λ y. a-less (same b less-byte y))
+    (test (eqb b greater-byte) (λ y. a-greater (same b greater-byte y))
+    (test (eqb b slash-byte) (λ y. a-slash (same b slash-byte y))
+    (test (eqb b 38) (λ y. a-forbidden)
+    (test (within 33 126 b) (λ y. an-other) a-forbidden))))))))
+  where
+    test : (t : Bool) {k l : Class} → (Yes t → Of b k) → Of b l → Of b (cond t k l)
+    test true h p = h refl
+    test false h p = p
+
+pub less-is : (b : ℕ) → class-of b ≡ less → b ≡ less-byte
+less-is b e = go (subst (Of b) e (of-class b))
+  where
+    go : Of b less → b ≡ less-byte
+    go (a-less h) = h
+
+pub greater-is : (b : ℕ) → class-of b ≡ greater → b ≡ greater-byte
+greater-is b e = go (subst (Of b) e (of-class b))
+  where
+    go : Of b greater → b ≡ greater-byte
+    go (a-greater h) = h
+
+pub slash-is : (b : ℕ) → class-of b ≡ slash → b ≡ slash-byte
+slash-is b e = go (subst (Of b) e (of-class b))
+  where
+    go : Of b slash → b ≡ slash-byte
+    go (a-slash h) = h
 
 pub letter-class : (b : ℕ) → Yes (letter-byte b) → class-of b ≡ letter
 unfolding letter-byte
@@ -92,7 +140,7 @@ name-at-end [] c s t stop = never t
 name-at-end (b ∷ name) c s t stop = let (u, v) = name-cons b name t in name-bytes-end (b ∷ name) c s (and-yes (or-left _ u) v) stop
 
 -- no byte of a text is <
-not-less : (b : ℕ) → Yes (text-byte b) → is (class-of b) less ≡ false
+pub not-less : (b : ℕ) → Yes (text-byte b) → is (class-of b) less ≡ false
 unfolding is class-number
 not-less b t = text-cases (λ c. is c less ≡ false) refl refl refl refl refl refl b t
 

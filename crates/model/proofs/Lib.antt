@@ -40,6 +40,8 @@ pub mod TextLaws
 pub mod Zipper
 pub mod ReadSteps
 pub mod ReadGood
+pub mod Remaining
+pub mod Forms
 pub mod RoundTrip
 pub mod Formcheck
 pub mod Examples

@@ -24,7 +24,7 @@ use Rattle.model.proofs.Zipper.{At, Sound}
 use Rattle.model.proofs.ReadSteps.{not-stopped, keeps-sound}
 
 -- a test that passes, and what is said behind it
-guarded : {A : Type 0} (b : Bool) (next : Checked A) (n i : ℕ) {a : A} → cond b next (refuses n i) ≡ passes a → Yes b × (next ≡ passes a)
+pub guarded : {A : Type 0} (b : Bool) (next : Checked A) (n i : ℕ) {a : A} → cond b next (refuses n i) ≡ passes a → Yes b × (next ≡ passes a)
 guarded true next n i e = (refl, e)
 guarded false next n i e = absurd (refuses≢passes e)
 
@@ -35,7 +35,7 @@ rest-next s i b t r = record {
   front = ap (λ (j : ℕ). drop j s) (sym (add-one i)) ∙ sym (drop-drop 1 i s) ∙ ap (drop 1) (r .front);
 }
 
-is-after : (p : Place) → Yes (does (to p) (to after)) → p ≡ after
+pub is-after : (p : Place) → Yes (does (to p) (to after)) → p ≡ after
 unfolding does move-number place-number
 is-after before e = never e
 is-after root-open e = never e

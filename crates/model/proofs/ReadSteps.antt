@@ -29,9 +29,9 @@ use Rattle.model.proofs.Zipper.{bytes-read, OpenIn, AllOpen, Room, At, 
 
 -- what the refusals 3 to 7 leave of a move m by byte b
 pub record Allowed (list : List ℕ) (os : List Open) (n b : ℕ) (t : List ℕ) (m : Move) : Type 0 where
-  goes-on : does m stops ≡ false
-  listed : Yes (does m opens) → tag-of list (name-at (b ∷ t)) ≢ 0
-  innermost-named : Yes (does m names) → tag-of list (name-at (b ∷ t)) ≡ innermost os
+  pub goes-on : does m stops ≡ false
+  pub listed : Yes (does m opens) → tag-of list (name-at (b ∷ t)) ≢ 0
+  pub innermost-named : Yes (does m names) → tag-of list (name-at (b ∷ t)) ≡ innermost os
   shallow : Yes (start-tag m t) → length os < 32
   few : Yes (start-tag m t || does m begins) → n < 4096
 
@@ -62,29 +62,29 @@ not-stopped list st b t e =
     }
 
 -- what a byte of a class may stand in: a name; a text; the ends of a text
-abbrev name-class : Class → Bool
+abbrev pub name-class : Class → Bool
 name-class k = is k letter || (is k digit || is k hyphen)
 
-abbrev text-class : Class → Bool
+abbrev pub text-class : Class → Bool
 text-class k = not (is k less) && (not (is k greater) && not (is k forbidden))
 
-abbrev solid-class : Class → Bool
+abbrev pub solid-class : Class → Bool
 solid-class k = not (is k white)
 
-as-name-byte : (b : ℕ) {k : Class} {v : Bool} → class-of b ≡ k → name-class k ≡ v → name-byte b ≡ v
+pub as-name-byte : (b : ℕ) {k : Class} {v : Bool} → class-of b ≡ k → name-class k ≡ v → name-byte b ≡ v
 unfolding name-byte
 as-name-byte b c e = ap name-class c ∙ e
 
-as-text-byte : (b : ℕ) {k : Class} → class-of b ≡ k → Yes (text-class k) → Yes (text-byte b)
+pub as-text-byte : (b : ℕ) {k : Class} → class-of b ≡ k → Yes (text-class k) → Yes (text-byte b)
 unfolding text-byte
 as-text-byte b c e = ap text-class c ∙ e
 
-as-solid-byte : (b : ℕ) {k : Class} → class-of b ≡ k → Yes (solid-class k) → Yes (solid-byte b)
+pub as-solid-byte : (b : ℕ) {k : Class} → class-of b ≡ k → Yes (solid-class k) → Yes (solid-byte b)
 unfolding solid-byte
 as-solid-byte b c e = ap solid-class c ∙ e
 
 -- a case for each class
-row : (P : Class → Type 0) → P white → P letter → P digit → P hyphen → P less → P greater → P slash → P other → P forbidden →
+pub row : (P : Class → Type 0) → P white → P letter → P digit → P hyphen → P less → P greater → P slash → P other → P forbidden →
     (k : Class) → P k
 row P w l d h lt gt s o f white = w
 row P w l d h lt gt s o f letter = l
