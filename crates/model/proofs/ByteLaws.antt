@@ -123,21 +123,21 @@ text-cases P w l d h s o b t = go (class-of b) t
 
 -- ---- names and texts
 
--- a name goes on up to a byte that no name has
-name-bytes-end : (name : List ℕ) (c : ℕ) (s : List ℕ) → Yes (every name-byte name) → name-byte c ≡ false → name-at (name ++ (c ∷ s)) ≡ name
+-- a name goes on up to what begins none
+name-bytes-end : (name r : List ℕ) → Yes (every name-byte name) → name-at r ≡ [] → name-at (name ++ r) ≡ name
 unfolding name-at
-name-bytes-end [] c s t stop = rw stop
-name-bytes-end (b ∷ name) c s t stop = let (u, v) = every-cons name-byte b name t in rw (u, name-bytes-end name c s v stop)
+name-bytes-end [] r t e = e
+name-bytes-end (b ∷ name) r t e = let (u, v) = every-cons name-byte b name t in rw (u, name-bytes-end name r v e)
 
 -- a name, test by test
 pub name-cons : (b : ℕ) (name : List ℕ) → Yes (is-name (b ∷ name)) → Yes (letter-byte b) × Yes (every name-byte name)
 unfolding is-name
 name-cons b name t = (and-left (letter-byte b) (every name-byte name) t, and-right (letter-byte b) (every name-byte name) t)
 
-pub name-at-end : (name : List ℕ) (c : ℕ) (s : List ℕ) → Yes (is-name name) → name-byte c ≡ false → name-at (name ++ (c ∷ s)) ≡ name
+pub name-at-end : (name r : List ℕ) → Yes (is-name name) → name-at r ≡ [] → name-at (name ++ r) ≡ name
 unfolding is-name every letter-byte name-byte
-name-at-end [] c s t stop = never t
-name-at-end (b ∷ name) c s t stop = let (u, v) = name-cons b name t in name-bytes-end (b ∷ name) c s (and-yes (or-left _ u) v) stop
+name-at-end [] r t e = never t
+name-at-end (b ∷ name) r t e = let (u, v) = name-cons b name t in name-bytes-end (b ∷ name) r (and-yes (or-left _ u) v) e
 
 -- no byte of a text is <
 pub not-less : (b : ℕ) → Yes (text-byte b) → is (class-of b) less ≡ false

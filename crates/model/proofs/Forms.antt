@@ -2,15 +2,13 @@
 use mathlib.Core.Path.{_≡_, sym, ap, subst, _∙_}
 use mathlib.Core.Logic.{_↔_}
 use mathlib.Core.List.{List}
-use Prim.Native.Nat.{ℕ, _*_, _≤_}
-use native.Mathlib.Omega.{arith}
+use Prim.Native.Nat.{ℕ, _≤_}
 use lib.Dec.{leb}
 use lib.ListN.{length}
 use Rattle.model.specs.Answers.{passes}
-use Rattle.model.specs.Tree.{Element, Document, ε, _·_, sizeD, Over}
+use Rattle.model.specs.Tree.{Element, Document, ε, _·_, Over}
 use Rattle.model.specs.Text.{start, form-of, scan}
 use Rattle.model.specs.Grammar.{list-bytes, NameList, Form}
-use Rattle.model.proofs.CheckLaws.{passes-inj}
 use Rattle.model.proofs.NameList.{names-checked}
 use Rattle.model.proofs.Scan.{scan-is, form-short}
 use Rattle.model.proofs.FormScan.{form-taken}

@@ -33,7 +33,7 @@ pub mod Answered
 pub mod ByteLaws
 pub mod DocumentLaws
 pub mod Scan
-pub mod RoundScan
+pub mod ScanLaws
 pub mod FormScan
 pub mod Rewritten
 pub mod TextLaws

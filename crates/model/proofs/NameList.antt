@@ -18,8 +18,8 @@ use Rattle.model.specs.Grammar.{list-bytes, TagOf, NameList}
 use Rattle.model.proofs.Tests.{Yes, Told, yea, nay, told, never, and-yes, or-left, same, eqb-yes, eqb-no, eqb-false}
 use Rattle.model.proofs.ListLaws.{every-cons}
 use Rattle.model.proofs.ByteLaws.{name-cons}
-use Rattle.model.proofs.NameLaws.{number-at, lines-counted, line-at, some-names, few-names, name-is, name-short}
-use Rattle.model.proofs.NameLaws.{tag-of-name, tag-few, name-of-tag}
+use Rattle.model.proofs.NameLaws.{number-at, lines-counted, line-at, some-names, few-names, name-is, name-short, tag-of-name}
+use Rattle.model.proofs.NameLaws.{tag-few, name-of-tag}
 use Rattle.model.proofs.ListLines.{Free, Lines, no-line, open-line, line, by-lines, ended-line, line-first, open-first, last-free}
 
 -- ---- the names of a list that passes

@@ -2,9 +2,9 @@
 -- from the end of the text back to its start.
 use mathlib.Core.Path.{_≡_, refl, sym, ap, subst, subst₂, _∙_}
 use mathlib.Core.Logic.{_⊎_, inl, inr, _≢_}
-use mathlib.Core.Bool.{Bool, true, false, true≢false}
+use mathlib.Core.Bool.{false, true≢false}
 use mathlib.Core.List.{List, [], _∷_, _++_, append-assoc}
-use Prim.Native.Nat.{ℕ, suc, _+_, _≤_}
+use Prim.Native.Nat.{ℕ, suc, _+_}
 use native.Mathlib.Omega.{arith}
 use native.Mathlib.Nat.{add-zero}
 use lib.Dec.{eqb}
@@ -12,13 +12,13 @@ use lib.ListN.{length, length-append}
 use Rattle.model.specs.Lists.{every}
 use Rattle.model.specs.Answers.{passes}
 use Rattle.model.specs.Tree.{Element, Document, ε, _·_}
-use Rattle.model.specs.Bytes.{Class, white, letter, digit, hyphen, less, greater, slash, other, forbidden, class-number, is, class-of}
-use Rattle.model.specs.Bytes.{less-byte, greater-byte, slash-byte, name-byte}
+use Rattle.model.specs.Bytes.{Class, white, letter, less, greater, slash, class-number, is, class-of, less-byte, greater-byte}
+use Rattle.model.specs.Bytes.{slash-byte, name-byte}
 use Rattle.model.specs.Names.{tag-of}
 use Rattle.model.specs.Text.{Place, before, root-open, blank, in-text, tag-open, start-name, start-gap, start-slash, end-open}
-use Rattle.model.specs.Text.{end-name, end-gap, after, Move, to, opens, begins, closes, stops, moves, move, place-number}
-use Rattle.model.specs.Text.{move-number, does, Open, State, start, name-at, text-at, trimmed, behind, text-node, tag-node, outside, closed, moved}
-use Rattle.model.specs.Text.{innermost, number-at, state, an-open, scan}
+use Rattle.model.specs.Text.{end-name, end-gap, after, Move, to, opens, begins, closes, stops, moves, move, move-number, does, Open}
+use Rattle.model.specs.Text.{State, start, name-at, text-at, trimmed, behind, text-node, tag-node, outside, closed, moved, innermost}
+use Rattle.model.specs.Text.{number-at, state, an-open, scan}
 use Rattle.model.specs.Text as text
 use Rattle.model.specs.Written.{text-byte, solid-byte}
 use Rattle.model.specs.Grammar.{list-bytes, TagOf, NameList, White, no-white, more-white, start-bytes, end-bytes, empty-bytes}

@@ -1,26 +1,30 @@
 -- What is written is read again: the pass over a written form gives the same form, with each text where its bytes now stand.
-use mathlib.Core.Path.{_≡_, refl, sym, ap, ap₂, subst₂}
+use mathlib.Core.Path.{_≡_, refl, sym, ap, ap₂, subst, _∙_}
 use mathlib.Core.Bool.{Bool, true, false, _&&_}
 use mathlib.Core.List.{List, [], _∷_, _++_, append-assoc, append-nil}
-use Prim.Native.Nat.{ℕ, suc, _+_, _-_, _≤_, _<_}
+use Prim.Native.Nat.{ℕ, suc, _+_, _-_, _≤_}
+use native.Mathlib.Nat.{add-zero}
 use native.Mathlib.Omega.{arith}
 use lib.Dec.{eqb, leb}
-use lib.ListN.{length, drop, length-drop}
+use lib.ListN.{length, drop, length-append, length-drop}
 use lib.Seq.{length-take-le}
 use borrow.Author.Tests.{leb-true}
 use Rattle.model.specs.Answers.{passes}
 use Rattle.model.specs.Tree.{Span, Element, text, tag, Document, ε, _·_, size, sizeD, nodes, nodesD, words, wordsD, without-starts}
 use Rattle.model.specs.Tree.{is-text, Keeps, KeepsD, Over}
-use Rattle.model.specs.Bytes.{kind-of-text}
+use Rattle.model.specs.Bytes.{less-byte, greater-byte, kind-of-text}
 use Rattle.model.specs.Names.{name-of, names-of}
-use Rattle.model.specs.Text.{Place, Open, State, blank, in-text, outside, behind, text-node, tag-node, form-of, state, an-open}
+use Rattle.model.specs.Text.{text-node, tag-node, form-of}
 use Rattle.model.specs.Written.{source-bytes, tagged, written, writtenD, trimmed-text, good-text, good-words, texts-checked}
 use Rattle.model.proofs.ListLaws.{every-cons, every-append}
 use Rattle.model.proofs.Tests.{Yes, never, and-left, and-right, same}
-use Rattle.model.proofs.DocumentLaws.{followed, followed-ε, followed-behind, ends-in-text, GoodNodes, texts-good}
-use Rattle.model.proofs.NameLaws.{name-is, tag-of-name}
-use Rattle.model.proofs.RoundScan.{content-place, Scans, nothing, then, text-run, Listed, Leads, at-root, in-content, empty-run}
-use Rattle.model.proofs.RoundScan.{full-run, form-read}
+use Rattle.model.proofs.DocumentLaws.{GoodNodes, texts-good}
+use Rattle.model.proofs.NameLaws.{tag-of-name}
+use Rattle.model.specs.Grammar.{list-bytes, TagOf, NameList, no-white, end-bytes, ElementAt, empty, full, ContentAt, TagsAt, no-more}
+use Rattle.model.specs.Grammar.{more, Form, form}
+use Rattle.model.specs.Grammar as grammar
+use Rattle.model.proofs.NameList.{names-checked, tag-numbers, names-pass}
+use Rattle.model.proofs.FormScan.{form-taken}
 
 -- ---- checked text words
 
@@ -96,97 +100,124 @@ module _ (list s : List ℕ) where
         rw (append-assoc (words (placed i e)) (wordsD (placedD j d)) r, append-assoc (words e) (wordsD d) r′)
         (placed-words e i u (wordsD (placedD j d) ++ r) (wordsD d ++ r′) (placed-wordsD d j v r r′ h))
 
-  -- ---- the pass over a written form
+  -- it keeps the same rules
+  placed-text : (e : Element) (i : ℕ) → is-text (placed i e) ≡ is-text e
+  unfolding is-text placed tag-node
+  placed-text (text k w) i = refl
+  placed-text (tag a w d) i = refl
 
-  -- the state come to, put another way
-  ends-as : {st : State} {i : ℕ} {xs rest : List ℕ} {p : Place} {c c′ : Document} {os : List Open} {n n′ : ℕ}
-      → Scans list st i xs rest (state p c os n) → c ≡ c′ → n ≡ n′ → Scans list st i xs rest (state p c′ os n′)
-  ends-as {st} {i} {xs} {rest} {p} {os = os} r e f = subst₂ (λ c n. Scans list st i xs rest (state p c os n)) e f r
+  mutual
+    unfolding placed tag-node
 
-  -- a text, which stands behind no text
-  read-text : (k : ℕ) (w : Span) (after-text : Bool) → (after-text && true) ≡ false → Yes (good-text s k w)
-      → {c : Document} {os : List Open} {n i : ℕ} (rest : List ℕ) → n < 4096
-      → Scans list (state (content-place after-text) c os n) i (source-bytes s w) (60 ∷ rest)
-      (state in-text (behind c (placed i (text k w))) os (n + 1))
-  unfolding placed text-node
-  read-text k w true apart t rest room = never (sym apart)
-  read-text k w false apart t {c} {i = i} rest room =
-      let good = good-text-is s k w t in
-      ends-as (text-run list (source-bytes s w) (good .solid) room)
-      (ap₂ (λ kind bytes. behind c (text kind (record { start = i; bytes = bytes }))) (good .kind-is) (good .long)) (omega arith)
+    placed-keeps : (e : Element) (g levels i : ℕ) → Keeps g levels e → Keeps g levels (placed i e)
+    placed-keeps (text k w) g levels i keeps = keeps
+    placed-keeps (tag a w d) g levels i keeps =
+        (keeps .0, keeps .1, keeps .2, placed-keepsD d g (levels - 1) false (content-at i a) (keeps .3))
 
-  -- behind a text stands the < of a tag or of the parent's end
-  less-next : (g levels : ℕ) (after-text : Bool) (d : Document) → KeepsD g levels after-text d → Yes after-text
-      → (rest : List ℕ) → (r : List ℕ) × (writtenD list s d ++ (60 ∷ rest) ≡ 60 ∷ r)
-  unfolding written tagged is-text
-  less-next g levels after-text ε keeps t rest = (rest, refl)
-  less-next g levels after-text (text k w · d) keeps t rest = never (sym (rw t at (keeps .0)))
-  less-next g levels after-text (tag a w ε · d) keeps t rest = (_, refl)
-  less-next g levels after-text (tag a w (e · c) · d) keeps t rest = (_, refl)
+    placed-keepsD : (d : Document) (g levels : ℕ) (b : Bool) (i : ℕ) → KeepsD g levels b d → KeepsD g levels b (placedD i d)
+    placed-keepsD ε g levels b i keeps = tt
+    placed-keepsD (e · d) g levels b i keeps =
+        rw (placed-text e i)
+        (keeps .0, placed-keeps e g levels i (keeps .1), placed-keepsD d g levels (is-text e) (i + length (written list s e)) (keeps .2))
 
-  module _ (g : ℕ) (checked : names-of list ≡ passes g) where
-    -- a tag's name, in a checked list
-    listed : (a : ℕ) → 1 ≤ a → a ≤ g → Listed list (name-of list a) a
-    listed a h k = record { named = name-is list g checked a h k; tag-is = tag-of-name list g checked a h k; some = λ e. omega arith }
+-- ---- a written form is a form by the grammar
 
-    -- a tag, where its content is read
-    read-tag : (a : ℕ) (w : Span) (d : Document) → 1 ≤ a → a ≤ g → {p q : Place} → Leads list p q
-        → {c : Document} {os : List Open} {n i : ℕ} {rest : List ℕ} → length os < 32 → n < 4096
-        → (let j = content-at i a in let os′ = an-open a c ∷ os in (r : List ℕ)
-        → Scans list (state blank ε os′ (suc n)) j (writtenD list s d) (60 ∷ r)
-        (state (content-place (ends-in-text false d)) (placedD j d) os′ (suc n + sizeD d)))
-        → Scans list (state p c os n) i (written list s (tag a w d)) rest
-        (state (outside os) (behind c (placed i (tag a w d))) os (n + suc (sizeD d)))
-    unfolding written tagged placed size
-    read-tag a w ε h k leads deep room content = ends-as (empty-run list leads (listed a h k) deep room) refl (omega arith)
-    read-tag a w (e · d) h k leads deep room content =
-        ends-as (full-run list leads (listed a h k) deep room (in-content list (ends-in-text false (e · d))) content) refl (omega arith)
+module _ (names : List (List ℕ)) (is-list : NameList names) (s : List ℕ) where
+  abbrev list : List ℕ
+  list = list-bytes names
 
-    -- an element, and a document, in the content of an open one
-    mutual
-      unfolding size nodes good-words written placed is-text outside followed ends-in-text
+  -- the name of a tag
+  tag-is : (a : ℕ) → 1 ≤ a → a ≤ length names → TagOf names a (name-of list a)
+  tag-is a h k = tag-numbers names is-list a (name-of list a) .1 (h, tag-of-name list (length names) (names-checked names is-list) a h k)
 
-      read-element : (e : Element) (levels : ℕ) (after-text : Bool) → (after-text && is-text e) ≡ false → Keeps g levels e
-          → {c : Document} {o : Open} {os : List Open} {n i : ℕ} (rest : List ℕ) → suc
-          (length os) + levels ≤ 32 → n + size e ≤ 4096 → GoodNodes s (nodes e)
-          → (Yes (is-text e) → (r : List ℕ) × (rest ≡ 60 ∷ r))
-          → Scans list (state (content-place after-text) c (o ∷ os) n) i (written list s e) rest
-          (state (content-place (is-text e)) (behind c (placed i e)) (o ∷ os) (n + size e))
-      read-element (text k w) levels after-text apart keeps rest deep few good next =
-          let (r, e) = next refl in
-          rw e (read-text k w after-text apart (every-cons (good-words s) (text k w) [] good .0) r (omega arith))
-      read-element (tag a w d) levels after-text apart keeps rest deep few good next =
-          read-tag a w d (keeps .0) (keeps .1) (in-content list after-text) (omega arith) (omega arith)
-          (λ r. read-document d (levels - 1) false (keeps .3) r (omega arith) (omega arith)
-          (every-cons (good-words s) (tag a w d) (nodesD d) good .1))
+  -- a tag with its content
+  written-tag : (a : ℕ) (w : Span) (d : Document) (i : ℕ) → TagOf names a (name-of list a)
+      → ContentAt names (content-at list s i a) (writtenD list s d) (placedD list s (content-at list s i a) d)
+      → ElementAt names i (written list s (tag a w d)) (placed list s i (tag a w d))
+  unfolding written tagged placed tag-node
+  written-tag a w ε i t content = empty t no-white
+  written-tag a w (e · d) i t content =
+      let name = name-of list a in
+      let bytes = writtenD list s (e · d) in
+      let inner = placedD list s (content-at list s i a) (e · d) in
+      subst (λ l. ElementAt names i (less-byte ∷ l) (tag-node a inner)) (append-assoc name (greater-byte ∷ []) (bytes ++ end-bytes name []))
+      (full {i = i} t no-white
+      (subst (λ (j : ℕ). ContentAt names j bytes inner) (omega (arith, length-append name (greater-byte ∷ []))) content) no-white)
 
-      read-document : (d : Document) (levels : ℕ) (after-text : Bool) → KeepsD g levels after-text d
-          → {c : Document} {o : Open} {os : List Open} {n i : ℕ} (rest : List ℕ) → suc
-          (length os) + levels ≤ 32 → n + sizeD d ≤ 4096 → GoodNodes s (nodesD d)
-          → Scans list (state (content-place after-text) c (o ∷ os) n) i (writtenD list s d) (60 ∷ rest)
-          (state (content-place (ends-in-text after-text d)) (followed c (placedD i d)) (o ∷ os) (n + sizeD d))
-      read-document ε levels after-text keeps {c} rest deep few good = ends-as (nothing list) (sym (followed-ε c)) (omega arith)
-      read-document (e · d) levels after-text keeps {c} {i = i} rest deep few good =
-          let (u, v) = every-append (good-words s) (nodes e) (nodesD d) good in
-          ends-as
-          (then list
-          (read-element e levels after-text (keeps .0) (keeps .1) (writtenD list s d ++ (60 ∷ rest)) deep (omega arith) u
-          (λ t. less-next g levels (is-text e) d (keeps .2) t rest))
-          (read-document d levels (is-text e) (keeps .2) rest deep (omega arith) v))
-          (followed-behind c (placed i e) (placedD (i + length (written list s e)) d)) (omega arith)
+  -- content after a text begins with a tag
+  abbrev Follows : (after-text : Bool) → ℕ → List ℕ → Document → Type 0
+  Follows true i r d = TagsAt names i r d
+  Follows false i r d = ContentAt names i r d
+
+  nothing-follows : (after-text : Bool) (i : ℕ) → Follows after-text i [] ε
+  nothing-follows true i = no-more
+  nothing-follows false i = grammar.blank no-white no-more
+
+  -- an element, and what follows it
+  element-follows : (e : Element) (after-text : Bool) (i : ℕ) (r : List ℕ) (d : Document) → (after-text && is-text e) ≡ false
+      → (is-text e ≡ false → ElementAt names i (written list s e) (placed list s i e)) → GoodNodes s (nodes e)
+      → Follows (is-text e) (i + length (written list s e)) r d → Follows after-text i (written list s e ++ r) (placed list s i e · d)
+  unfolding is-text nodes good-words written placed text-node
+  element-follows (text k w) true i r d apart element good rest = never (sym apart)
+  element-follows (text k w) false i r d apart element good rest =
+      let bytes = source-bytes s w in
+      let g = good-text-is s k w (every-cons (good-words s) (text k w) [] good .0) in
+      let here = add-zero i in
+      let node-is : text-node (i + 0) bytes ≡ text k (record { start = i; bytes = w .bytes }) =
+      λ j. text (g .kind-is j) (record { start = here j; bytes = g .long j }) in
+      subst (λ e. ContentAt names i (bytes ++ r) (e · d)) node-is
+      (grammar.text {i = i} bytes no-white (g .solid) no-white (subst (λ (j : ℕ). TagsAt names j r d) (omega arith) rest))
+  element-follows (tag a w c) true i r d apart element good rest = more (element refl) rest
+  element-follows (tag a w c) false i r d apart element good rest =
+      let e = tag a w c in
+      grammar.blank no-white
+      (subst (λ (j : ℕ). TagsAt names j (written list s e ++ r) (placed list s i e · d)) (sym (add-zero i)) (more (element refl) rest))
+
+  mutual
+    unfolding is-text nodes written placed
+
+    written-element : (e : Element) (levels i : ℕ) → is-text e ≡ false → Keeps (length names) levels e → GoodNodes s (nodes e)
+        → ElementAt names i (written list s e) (placed list s i e)
+    written-element (text k w) levels i a-tag keeps good = never (sym a-tag)
+    written-element (tag a w d) levels i a-tag keeps good =
+        written-tag a w d i (tag-is a (keeps .0) (keeps .1))
+        (written-document d (levels - 1) false (content-at list s i a) (keeps .3) (every-cons (good-words s) (tag a w d) (nodesD d) good .1))
+
+    written-document : (d : Document) (levels : ℕ) (after-text : Bool) (i : ℕ) → KeepsD (length names) levels after-text d → GoodNodes s (nodesD d)
+        → Follows after-text i (writtenD list s d) (placedD list s i d)
+    written-document ε levels after-text i keeps good = nothing-follows after-text i
+    written-document (e · d) levels after-text i keeps good =
+        let (u, v) = every-append (good-words s) (nodes e) (nodesD d) good in
+        element-follows e after-text i (writtenD list s d) (placedD list s (i + length (written list s e)) d) (keeps .0)
+        (λ t. written-element e levels i t (keeps .1) u) u
+        (written-document d levels (is-text e) (i + length (written list s e)) (keeps .2) v)
+
+  -- so it is read again, with the same words but for text starts
+  written-again : (e : Element) → Over (length names) e → texts-checked s 0 (nodes e) ≡ passes tt → length (written list s e) ≤ 65535
+      → (f : Element) × (form-of list (written list s e) ≡ passes (f · ε)) × (without-starts (words f) ≡ without-starts (words e))
+  written-again e over texts short =
+      let f = placed list s 0 e in
+      let good = texts-good s 0 (nodes e) .0 texts in
+      let is-form : Form names (written list s e) f =
+      rw append-nil at (form no-white (written-element e 32 0 (over .root) (over .keeps) good) no-white) in
+      let over′ : Over (length names) f = record {
+        root = placed-text list s e 0 ∙ over .root;
+        keeps = placed-keeps list s e (length names) 32 0 (over .keeps);
+        few = omega (arith, placed-size list s e 0, over .few);
+      } in (
+        f,
+        form-taken names is-list (length names) is-form over′ short,
+        simp append-nil at (placed-words list s e 0 good [] [] refl),
+      )
 
 -- A form that the writer writes is read again, with the same words but for text starts.
 pub written-read : (list s : List ℕ) (g : ℕ) (e : Element) → names-of list ≡ passes g → Over g e → texts-checked s 0 (nodes e) ≡ passes tt
     → length (written list s e) ≤ 65535
     → (f : Element) × (form-of list (written list s e) ≡ passes (f · ε)) × (without-starts (words f) ≡ without-starts (words e))
-unfolding is-text size nodes behind outside followed
-written-read list s g (text k w) checked over texts short = never (sym (over .root))
-written-read list s g (tag a w d) checked over texts short =
-    let good = texts-good s 0 (nodes (tag a w d)) .0 texts in (
-      placed list s 0 (tag a w d),
-      form-read list short
-          (read-tag list s g checked a w d (over .keeps .0) (over .keeps .1) (at-root list) (omega arith) (omega arith)
-          (λ r. read-document list s g checked d 31 false (over .keeps .3) r (omega arith) (omega arith)
-          (every-cons (good-words s) (tag a w d) (nodesD d) good .1))),
-      simp append-nil at (placed-words list s (tag a w d) 0 good [] [] refl),
-    )
+written-read list s g e checked over texts short =
+    let (names, l, is-list, n) = names-pass list g .0 checked in
+    subst Again (sym l) (written-again names is-list s e (subst (λ (g : ℕ). Over g e) (sym n) over) texts) short
+  where
+    Again : List ℕ → Type 0
+    Again list = length (written list s e) ≤ 65535
+        → (f : Element) × (form-of list (written list s e) ≡ passes (f · ε)) × (without-starts (words f) ≡ without-starts (words e))
