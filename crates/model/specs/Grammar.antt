@@ -4,7 +4,7 @@ use mathlib.Core.Bool.{true}
 use mathlib.Core.List.{List, [], _∷_, _++_}
 use Prim.Native.Nat.{ℕ, _+_, _-_, _≤_}
 use lib.ListN.{length, getD}
-use Rattle.model.specs.Tree.{Element, Document, ε, _·_}
+use Rattle.model.specs.Tree.{Element, Document, ε, _·_, Over}
 use Rattle.model.specs.Bytes.{white, class-of, less-byte, greater-byte, slash-byte, line-feed, is-name}
 use Rattle.model.specs.Text.{text-node, tag-node}
 use Rattle.model.specs.Written.{trimmed-text}
@@ -72,8 +72,16 @@ module _ (names : List (List ℕ)) where
       -- the end tag of the parent is next
       no-more : {i : ℕ} → TagsAt i [] ε
       -- an element is next
-      more : {i : ℕ} {s t : List ℕ} {e : Element} {d : Document} → ElementAt i s e → ContentAt (i + length s) t d → TagsAt i (s ++ t) (e · d)
+      more : {i : ℕ} {s t : List ℕ} {e : Element} {d : Document}
+          → ElementAt i s e → ContentAt (i + length s) t d → TagsAt i (s ++ t) (e · d)
 
   -- A form is one element with white around it.
   pub data Form : List ℕ → Element → Type 0 where
     form : {s t u : List ℕ} {e : Element} → White s → ElementAt (length s) t e → White u → Form (s ++ (t ++ u)) e
+
+  -- A form within the limits: its tree keeps the rules over the list's tags, with elements at most 32 deep and at most 4,096 nodes, and
+  -- it has at most 65,535 bytes.
+  pub record GoodForm (s : List ℕ) (e : Element) : Type 0 where
+    pub is-form : Form s e
+    pub keeps : Over (length names) e
+    pub short : length s ≤ 65535
