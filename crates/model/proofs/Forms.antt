@@ -20,7 +20,7 @@ use Rattle.model.proofs.NameList.{names-checked, names-pass}
 use Rattle.model.proofs.Scan.{scan-is, form-short}
 use Rattle.model.proofs.FormScan.{form-taken}
 use Rattle.model.proofs.ReadGood.{guarded, read-good}
-use Rattle.model.proofs.Remaining.{scanned-form}
+use Rattle.model.proofs.Backward.{scanned-form}
 use Rattle.model.proofs.RoundTrip.{one-size, room-passes}
 use Rattle.model.proofs.Formcheck.{Presents}
 

@@ -41,6 +41,7 @@ pub mod Zipper
 pub mod ReadSteps
 pub mod ReadGood
 pub mod Remaining
+pub mod Backward
 pub mod Forms
 pub mod RoundTrip
 pub mod Formcheck
