@@ -9,7 +9,7 @@ use lib.ListN.{length, length-append}
 use Rattle.model.specs.Answers.{passes}
 use Rattle.model.specs.Tree.{Element, Document, ε, _·_, size, sizeD, is-text, Keeps, KeepsD, Over}
 use Rattle.model.specs.Bytes.{class-number, is, class-of}
-use Rattle.model.specs.Text.{Place, blank, names, Open, State, text-at, behind, text-node, tag-node, outside, form-of, state}
+use Rattle.model.specs.Text.{Place, blank, Open, State, text-at, behind, text-node, tag-node, outside, form-of, state}
 use Rattle.model.specs.Grammar.{list-bytes, TagOf, NameList, start-bytes, end-bytes, ElementAt, empty, full, ContentAt, TagsAt}
 use Rattle.model.specs.Grammar.{no-more, more, Form, form}
 use Rattle.model.specs.Grammar as grammar
@@ -18,7 +18,7 @@ use Rattle.model.proofs.NameList.{tag-numbers}
 use Rattle.model.proofs.ScanLaws.{content-place, white-no-text, Scans, nothing, then, before-run, after-run, blank-run, trailing-run}
 use Rattle.model.proofs.ScanLaws.{text-run, Listed, Leads, at-root, in-content, start-tag-run, empty-tag-run, end-tag-run, form-read}
 
--- an element is a tag, and begins with <
+-- an element is a tag, of at least two bytes
 element-tag : {names : List (List ℕ)} {i : ℕ} {s : List ℕ} {e : Element} → ElementAt names i s e → is-text e ≡ false
 unfolding is-text tag-node
 element-tag (empty t v) = refl
@@ -31,7 +31,8 @@ element-long (full {name = name} {w} {content} {v = x} t v c u) =
     omega (arith, length-append (start-bytes name w) (content ++ end-bytes name x), length-append content (end-bytes name x))
 
 -- a tag begins no text
-tags-no-text : {names : List (List ℕ)} {i : ℕ} {s : List ℕ} {d : Document} → TagsAt names i s d → (r : List ℕ) → text-at (s ++ (60 ∷ r)) ≡ []
+tags-no-text : {names : List (List ℕ)} {i : ℕ} {s : List ℕ} {d : Document} → TagsAt names i s d
+    → (r : List ℕ) → text-at (s ++ (60 ∷ r)) ≡ []
 unfolding text-at is class-of class-number
 tags-no-text no-more r = refl
 tags-no-text (more (empty t v) c) r = refl
@@ -53,7 +54,8 @@ module _ (names : List (List ℕ)) (is-list : NameList names) where
       → Scans list st i xs rest (state p c os n) → c ≡ c′ → n ≡ n′ → Scans list st i xs rest (state p c′ os n′)
   ends-as {st} {i} {xs} {rest} {p} {os = os} r e f = subst₂ (λ c n. Scans list st i xs rest (state p c os n)) e f r
 
-  -- An element, content, and content from a tag on, in at most so many bytes: antt recurs on their number.
+  -- An element, content, and content from a tag on: the pass comes to the state with their nodes behind those before.
+  -- The recursion is on a bound of the number of bytes.
   module _ (g : ℕ) where
     mutual
       unfolding size is-text text-node tag-node outside followed ends-in-text
@@ -71,7 +73,8 @@ module _ (names : List (List ℕ)) (is-list : NameList names) where
           ends-as
           (then list {xs = start-bytes name w} (start-tag-run list leads (listed t) (omega arith) (omega arith) v)
           (then list {xs = content}
-          (content-run k c (omega arith) (levels - 1) false (keeps .3) (47 ∷ ((name ++ (x ++ (62 ∷ []))) ++ rest)) (omega arith) (omega arith))
+          (content-run k c (omega arith) (levels - 1) false (keeps .3) (47 ∷ ((name ++ (x ++ (62 ∷ []))) ++ rest))
+          (omega arith) (omega arith))
           (end-tag-run list (in-content list (ends-in-text false d)) (listed t) u)))
           refl (omega arith)
 
@@ -86,7 +89,8 @@ module _ (names : List (List ℕ)) (is-list : NameList names) where
       content-run (suc k) (grammar.text {i} {s} {u = x} {v = z} {d} t v y u ts) h levels b keeps {c} rest deep few =
           let long : length z < k = omega (arith, length-append s (t ++ (x ++ z)), length-append t (x ++ z), length-append x z) in
           ends-as
-          (then list {xs = s} (blank-run list v) (then list {xs = t} (text-run list t y (white-no-text u z (60 ∷ rest) (tags-no-text ts rest)) (omega arith))
+          (then list {xs = s} (blank-run list v)
+          (then list {xs = t} (text-run list t y (white-no-text u z (60 ∷ rest) (tags-no-text ts rest)) (omega arith))
           (then list {xs = x} (trailing-run list u) (tags-run k ts long levels true (keeps .2) true rest deep (omega arith)))))
           (followed-behind c (text-node (i + length s) t) d) (omega arith)
 

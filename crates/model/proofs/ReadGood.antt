@@ -24,7 +24,8 @@ use Rattle.model.proofs.Zipper.{At, Sound}
 use Rattle.model.proofs.ReadSteps.{not-stopped, keeps-sound}
 
 -- a test that passes, and what is said behind it
-pub guarded : {A : Type 0} (b : Bool) (next : Checked A) (n i : ℕ) {a : A} → cond b next (refuses n i) ≡ passes a → Yes b × (next ≡ passes a)
+pub guarded : {A : Type 0} (b : Bool) (next : Checked A) (n i : ℕ) {a : A} → cond b next (refuses n i) ≡ passes a
+    → Yes b × (next ≡ passes a)
 guarded true next n i e = (refl, e)
 guarded false next n i e = absurd (refuses≢passes e)
 

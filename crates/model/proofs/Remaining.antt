@@ -277,7 +277,8 @@ module _ (names : List (List ℕ)) (f : Document) where
     number = tag-of (list-bytes names) name
 
     -- a start tag that is listed begins an element
-    pub opened : Yes (name-byte b) → number ≢ 0 → Named (AfterStart (an-open number c) os ε) (suc (suc i)) t → Opens os c i (less-byte ∷ b ∷ t)
+    pub opened : Yes (name-byte b) → number ≢ 0 → Named (AfterStart (an-open number c) os ε) (suc (suc i)) t
+        → Opens os c i (less-byte ∷ b ∷ t)
     unfolding followed
     opened h listed m = go (m .follows)
       where

@@ -181,10 +181,11 @@ module _ (names : List (List ℕ)) (is-list : NameList names) (s : List ℕ) whe
     written-element (text k w) levels i a-tag keeps good = never (sym a-tag)
     written-element (tag a w d) levels i a-tag keeps good =
         written-tag a w d i (tag-is a (keeps .0) (keeps .1))
-        (written-document d (levels - 1) false (content-at list s i a) (keeps .3) (every-cons (good-words s) (tag a w d) (nodesD d) good .1))
+        (written-document d (levels - 1) false (content-at list s i a) (keeps .3)
+        (every-cons (good-words s) (tag a w d) (nodesD d) good .1))
 
-    written-document : (d : Document) (levels : ℕ) (after-text : Bool) (i : ℕ) → KeepsD (length names) levels after-text d → GoodNodes s (nodesD d)
-        → Follows after-text i (writtenD list s d) (placedD list s i d)
+    written-document : (d : Document) (levels : ℕ) (after-text : Bool) (i : ℕ) → KeepsD (length names) levels after-text d
+        → GoodNodes s (nodesD d) → Follows after-text i (writtenD list s d) (placedD list s i d)
     written-document ε levels after-text i keeps good = nothing-follows after-text i
     written-document (e · d) levels after-text i keeps good =
         let (u, v) = every-append (good-words s) (nodes e) (nodesD d) good in
