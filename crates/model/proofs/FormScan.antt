@@ -27,8 +27,8 @@ element-tag (full t v c u) = refl
 element-long : {names : List (List ℕ)} {i : ℕ} {s : List ℕ} {e : Element} → ElementAt names i s e → 2 ≤ length s
 element-long (empty {name = name} {w} t v) =
     omega (arith, length-append name (w ++ (47 ∷ 62 ∷ [])), length-append w (47 ∷ 62 ∷ []))
-element-long (full {name = name} {w} {content} {v = x} t v c u) =
-    omega (arith, length-append (start-bytes name w) (content ++ end-bytes name x), length-append content (end-bytes name x))
+element-long (full {name = name} {w} {w′} {s} t v c u) =
+    omega (arith, length-append (start-bytes name w) (s ++ end-bytes name w′), length-append s (end-bytes name w′))
 
 -- a tag begins no text
 tags-no-text : {names : List (List ℕ)} {i : ℕ} {s : List ℕ} {d : Document} → TagsAt names i s d
@@ -67,13 +67,13 @@ module _ (names : List (List ℕ)) (is-list : NameList names) where
       element-run zero e h levels keeps leads deep few = absurd (omega (arith, element-long e))
       element-run (suc k) (empty t v) h levels keeps leads deep few =
           ends-as (empty-tag-run list leads (listed t) (omega arith) (omega arith) v) refl (omega arith)
-      element-run (suc k) (full {name = name} {w} {content} {v = x} {d = d} t v c u) h levels keeps {rest = rest} leads deep few =
-          let l₁ = length-append (start-bytes name w) (content ++ end-bytes name x) in
-          let l₂ = length-append content (end-bytes name x) in
+      element-run (suc k) (full {name = name} {w} {w′} {s} {d} t v c u) h levels keeps {rest = rest} leads deep few =
+          let l₁ = length-append (start-bytes name w) (s ++ end-bytes name w′) in
+          let l₂ = length-append s (end-bytes name w′) in
           ends-as
           (then list {xs = start-bytes name w} (start-tag-run list leads (listed t) (omega arith) (omega arith) v)
-          (then list {xs = content}
-          (content-run k c (omega arith) (levels - 1) false (keeps .3) (47 ∷ ((name ++ (x ++ (62 ∷ []))) ++ rest))
+          (then list {xs = s}
+          (content-run k c (omega arith) (levels - 1) false (keeps .3) (47 ∷ ((name ++ (w′ ++ (62 ∷ []))) ++ rest))
           (omega arith) (omega arith))
           (end-tag-run list (in-content list (ends-in-text false d)) (listed t) u)))
           refl (omega arith)
@@ -84,15 +84,15 @@ module _ (names : List (List ℕ)) (is-list : NameList names) where
           → Scans list (state blank c (o ∷ os) n) i s (60 ∷ rest)
           (state (content-place (ends-in-text false d)) (followed c d) (o ∷ os) (n + sizeD d))
       content-run zero c h levels b keeps rest deep few = absurd (omega arith)
-      content-run (suc k) (grammar.blank {s = s} {t} v ts) h levels b keeps rest deep few =
-          then list {xs = s} (blank-run list v) (tags-run k ts (omega (arith, length-append s t)) levels b keeps false rest deep few)
-      content-run (suc k) (grammar.text {i} {s} {u = x} {v = z} {d} t v y u ts) h levels b keeps {c} rest deep few =
-          let long : length z < k = omega (arith, length-append s (t ++ (x ++ z)), length-append t (x ++ z), length-append x z) in
+      content-run (suc k) (grammar.blank {w = w} {s} v ts) h levels b keeps rest deep few =
+          then list {xs = w} (blank-run list v) (tags-run k ts (omega (arith, length-append w s)) levels b keeps false rest deep few)
+      content-run (suc k) (grammar.text {i} {w} {w′} {s} {d} t v h′ u ts) h levels b keeps {c} rest deep few =
+          let long : length s < k = omega (arith, length-append w (t ++ (w′ ++ s)), length-append t (w′ ++ s), length-append w′ s) in
           ends-as
-          (then list {xs = s} (blank-run list v)
-          (then list {xs = t} (text-run list t y (white-no-text u z (60 ∷ rest) (tags-no-text ts rest)) (omega arith))
-          (then list {xs = x} (trailing-run list u) (tags-run k ts long levels true (keeps .2) true rest deep (omega arith)))))
-          (followed-behind c (text-node (i + length s) t) d) (omega arith)
+          (then list {xs = w} (blank-run list v)
+          (then list {xs = t} (text-run list t h′ (white-no-text u s (60 ∷ rest) (tags-no-text ts rest)) (omega arith))
+          (then list {xs = w′} (trailing-run list u) (tags-run k ts long levels true (keeps .2) true rest deep (omega arith)))))
+          (followed-behind c (text-node (i + length w) t) d) (omega arith)
 
       tags-run : (k : ℕ) {i : ℕ} {s : List ℕ} {d : Document} → TagsAt names i s d → length s < k
           → (levels : ℕ) (b : Bool) → KeepsD g levels b d → (after-text : Bool)
@@ -112,10 +112,10 @@ module _ (names : List (List ℕ)) (is-list : NameList names) where
   -- a form whose tree keeps the rules is read as that tree
   pub form-taken : {s : List ℕ} {e : Element} (g : ℕ) → Form names s e → Over g e → length s ≤ 65535 → form-of list s ≡ passes (e · ε)
   unfolding outside behind
-  form-taken g (form {s} {t} {u} {e} v x w) over short =
-      let root = subst (λ (i : ℕ). ElementAt names i t e) (sym (zero-add (length s))) x in
+  form-taken g (form {w} {w′} {s} {e} v x u) over short =
+      let root = subst (λ (i : ℕ). ElementAt names i s e) (sym (zero-add (length w))) x in
       form-read list short
-      (then list {xs = s} (before-run list v)
-      (then list {xs = t}
-      (element-run g (length t) root (omega arith) 32 (over .keeps) (at-root list) (omega arith) (omega (arith, over .few)))
-      (after-run list w)))
+      (then list {xs = w} (before-run list v)
+      (then list {xs = s}
+      (element-run g (length s) root (omega arith) 32 (over .keeps) (at-root list) (omega arith) (omega (arith, over .few)))
+      (after-run list u)))

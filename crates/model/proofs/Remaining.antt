@@ -217,12 +217,12 @@ module _ (names : List (List ℕ)) (f : Document) where
 
   -- white ahead of content
   white-content : {i b : ℕ} {s : List ℕ} {d : Document} → class-of b ≡ white → ContentAt names (suc i) s d → ContentAt names i (b ∷ s) d
-  white-content {i} {b} e (grammar.blank {t = t} {d} v ts) =
-      grammar.blank {i = i} (more-white e v) (subst (λ (j : ℕ). TagsAt names j t d) (omega arith) ts)
-  white-content {i} {b} e (grammar.text {s = s} {u} {v} {d} t w h x ts) =
-      let later : i + suc (length s) ≡ suc i + length s = omega arith in
-      subst (λ (j : ℕ). ContentAt names i (b ∷ (s ++ (t ++ (u ++ v)))) (text-node j t · d)) later
-      (grammar.text {i = i} t (more-white e w) h x (subst (λ (j : ℕ). TagsAt names j v d) (omega arith) ts))
+  white-content {i} {b} e (grammar.blank {s = s} {d} v ts) =
+      grammar.blank {i = i} (more-white e v) (subst (λ (j : ℕ). TagsAt names j s d) (omega arith) ts)
+  white-content {i} {b} e (grammar.text {w = w} {w′} {s} {d} t v h u ts) =
+      let later : i + suc (length w) ≡ suc i + length w = omega arith in
+      subst (λ (j : ℕ). ContentAt names i (b ∷ (w ++ (t ++ (w′ ++ s)))) (text-node j t · d)) later
+      (grammar.text {i = i} t (more-white e v) h u (subst (λ (j : ℕ). TagsAt names j s d) (omega arith) ts))
 
   module _ (o : Open) (os : List Open) (c : Document) (i b : ℕ) (t : List ℕ) where
     pub blank-on : class-of b ≡ white → Outside (o ∷ os) c (suc i) t → Outside (o ∷ os) c i (b ∷ t)

@@ -97,7 +97,7 @@ module _ (list : List ℕ) where
       → White w → Scans (state p c os n) i w rest (state p c os n)
   unfolding moved
   white-run p stays free no-white = nothing
-  white-run p {rest = rest} stays free (more-white {b} {s = w} e v) =
+  white-run p {rest = rest} stays free (more-white {b} {w} e v) =
       byte (to p) (rw e stays) (free b (w ++ rest)) (white-run p stays free v)
 
   -- around the root, in content, and after a text
@@ -125,7 +125,7 @@ module _ (list : List ℕ) where
       → Scans (state p c os n) i (w ++ end) rest st
   unfolding moved
   gap-run p q enters stays free no-white ends ends-gap = ends _
-  gap-run p q {end = end} {rest} enters stays free (more-white {b} {s = w} e v) ends ends-gap =
+  gap-run p q {end = end} {rest} enters stays free (more-white {b} {w} e v) ends ends-gap =
       byte (to q) (rw e enters) (free p b ((w ++ end) ++ rest)) (then {xs = w} (white-run q stays (free q) v) (ends-gap _))
 
   -- ---- texts
