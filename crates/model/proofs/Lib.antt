@@ -34,6 +34,7 @@ pub mod ByteLaws
 pub mod DocumentLaws
 pub mod Scan
 pub mod ScanLaws
+pub mod GrammarLaws
 pub mod FormScan
 pub mod Rewritten
 pub mod TextLaws
