@@ -8,7 +8,7 @@ use lib.Dec.{leb}
 use lib.ListN.{length}
 use borrow.Author.Tests.{leb-true}
 use Rattle.model.specs.Answers.{passes, _>>=_, _>>_, room-for}
-use Rattle.model.specs.Tree.{Element, Document, ε, _·_, size, sizeD, Over}
+use Rattle.model.specs.Tree.{Element, Document, ε, _·_, size, sizeD}
 use Rattle.model.specs.Sheet.{Sheet, sheet-words, InRange, file-words}
 use Rattle.model.specs.Names.{names-of}
 use Rattle.model.specs.Text.{start, form-of, scan}
@@ -18,8 +18,8 @@ use Rattle.model.proofs.CheckLaws.{passes-inj, bind-inv, then-inv, requ
 use Rattle.model.proofs.SheetCode.{sheet-passes}
 use Rattle.model.proofs.NameList.{names-checked, names-pass}
 use Rattle.model.proofs.Scan.{scan-is, form-short}
-use Rattle.model.proofs.FormScan.{form-taken}
-use Rattle.model.proofs.ReadGood.{guarded, read-good}
+use Rattle.model.proofs.FormScan.{form-taken, form-keeps}
+use Rattle.model.proofs.ReadGood.{guarded}
 use Rattle.model.proofs.Backward.{scanned-form}
 use Rattle.model.proofs.RoundTrip.{one-size, room-passes}
 use Rattle.model.proofs.Formcheck.{Presents}
@@ -35,10 +35,8 @@ module _ (names : List (List ℕ)) (is-list : NameList names) where
         let list = list-bytes names in
         let (_, taken) = guarded (leb (length s) 65535) (scan list start 0 s) 1 65535 (sym (scan-is list s) ∙ h) in
         let (e, one, is-form) = scanned-form names is-list d s taken in
-        let (f, one′, over, _, _) = read-good list s (length names) d (names-checked names is-list) h in
-        let same : f ≡ e = cc in
-        (e, one, record { is-form = is-form; keeps = subst (Over (length names)) same over; short = form-short list s h }),
-    λ (e, one, g). form-taken names is-list (length names) (g .is-form) (g .keeps) (g .short) ∙ ap passes (sym one),
+        (e, one, record { is-form = is-form; keeps = form-keeps names is-list is-form taken; short = form-short list s h }),
+    λ (e, one, good). form-taken names is-list good ∙ ap passes (sym one),
   )
 
   -- No text is two forms.

@@ -8,8 +8,8 @@ use lib.ListN.{length, length-append}
 use Rattle.model.specs.Tree.{Element, Document, ε, _·_}
 use Rattle.model.specs.Text.{text-node, tag-node}
 use Rattle.model.specs.Written.{trimmed-text}
-use Rattle.model.specs.Grammar.{TagOf, White, start-bytes, end-bytes, empty-bytes, ElementAt, empty, full, ContentAt, blank, text, TagsAt}
-use Rattle.model.specs.Grammar.{no-more, more}
+use Rattle.model.specs.Grammar.{TagOf, White, start-bytes, end-bytes, empty-bytes, ElementAt, empty, full, ContentAt, blank, text}
+use Rattle.model.specs.Grammar.{TagsAt, no-more, more}
 
 -- an element has at least two bytes
 element-long : {names : List (List ℕ)} {i : ℕ} {s : List ℕ} {e : Element} → ElementAt names i s e → 2 ≤ length s

@@ -207,7 +207,7 @@ module _ (names : List (List ℕ)) (is-list : NameList names) (s : List ℕ) whe
         few = omega (arith, placed-size list s e 0, over .few);
       } in (
         f,
-        form-taken names is-list (length names) is-form over′ short,
+        form-taken names is-list (record { is-form = is-form; keeps = over′; short = short }),
         simp append-nil at (placed-words list s e 0 good [] [] refl),
       )
 

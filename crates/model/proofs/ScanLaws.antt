@@ -7,9 +7,9 @@ use Prim.Native.Nat.{ℕ, suc, _+_, _≤_, _<_}
 use native.Mathlib.Omega.{arith}
 use lib.Dec.{eqb, leb}
 use lib.ListN.{length, getD, length-append}
-use borrow.Author.Tests.{le-leb, lt-leb}
+use borrow.Author.Tests.{le-leb, lt-leb, leb-false, ltb-false}
 use Rattle.model.specs.Lists.{every}
-use Rattle.model.specs.Answers.{passes}
+use Rattle.model.specs.Answers.{passes, refuses}
 use Rattle.model.specs.Tree.{Document, ε}
 use Rattle.model.specs.Bytes.{Class, white, letter, forbidden, class-number, is, class-of, letter-byte, name-byte, is-name}
 use Rattle.model.specs.Names.{tag-of}
@@ -21,7 +21,7 @@ use Rattle.model.specs.Text.{number-at, form-of, state, an-open, scan}
 use Rattle.model.specs.Written.{text-byte, solid-byte, trimmed-text}
 use Rattle.model.specs.Grammar.{White, no-white, more-white, start-bytes, end-bytes, empty-bytes}
 use Rattle.model.proofs.ListLaws.{every-cons}
-use Rattle.model.proofs.Tests.{Yes, never, eqb-yes, eqb-false}
+use Rattle.model.proofs.Tests.{Yes, Told, yea, nay, told, never, eqb-yes, eqb-false}
 use Rattle.model.proofs.Scan.{scan-is}
 use Rattle.model.proofs.ByteLaws.{letter-class, name-cases, text-cases, name-cons, name-at-end, text-at-end, trimmed-cons}
 
@@ -44,6 +44,9 @@ white-no-name : {w : List ℕ} → White w → (z : ℕ) (s r : List ℕ) → na
 unfolding name-at name-byte is class-number
 white-no-name no-white z s r h = rw h
 white-no-name (more-white e v) z s r h = rw e
+
+not-below : {m n : ℕ} → (m < n → ⊥) → n ≤ m
+not-below h = omega arith
 
 module _ (list : List ℕ) where
   -- the number that refuses an allowed byte that does m
@@ -78,6 +81,20 @@ module _ (list : List ℕ) where
   byte {i} {b} {xs} {rest} {p} {c} {os} {n} {st′} m (e, f) z r =
       let on : suc i + length xs ≡ i + suc (length xs) = omega arith in
       record { goes = rw (f, e) (rw z (r .goes ∙ ap (λ (j : ℕ). scan list st′ j rest) on)) }
+
+  -- from a state and a place on, the text is refused
+  pub record Stops (st : State) (i : ℕ) (s : List ℕ) : Type 0 where
+    pub number : ℕ
+    pub place : ℕ
+    pub says : scan list st i s ≡ refuses number place
+
+  -- a byte that is refused
+  refused : {i b : ℕ} {s : List ℕ} {p : Place} {c : Document} {os : List Open} {n : ℕ} (k : ℕ) (m : Move)
+      → Does p m (class-of b) → number-by (state p c os n) b s m ≡ suc k → Stops (state p c os n) i (b ∷ s)
+  unfolding scan number-at refusal-2 refusal-3 refusal-4 refusal-5 refusal-6 refusal-7
+  refused {i} k m (e, f) z =
+      let some : eqb (suc k) 0 ≡ false = eqb-false {m = suc k} {n = 0} (λ h. omega arith) in
+      record { number = suc k; place = i; says = rw (f, e) (rw z (rw some)) }
 
   -- bytes that each stay at a place
   run : (p : Place) (test : ℕ → Bool) {c : Document} {os : List Open} {n i : ℕ} {rest : List ℕ}
@@ -152,6 +169,15 @@ module _ (list : List ℕ) where
       (text-cases (Does in-text (to in-text)) (refl, refl) (refl, refl) (refl, refl) (refl, refl) (refl, refl) (refl, refl))
       (λ b s. refl) t v))
 
+  -- as node 4,097 it is refused
+  pub text-refused : {c : Document} {os : List Open} {n i : ℕ} (rest t : List ℕ) → Yes (trimmed-text t) → 4096 ≤ n
+      → Stops (state blank c os n) i (t ++ rest)
+  unfolding trimmed-text does move-number place-number start-tag
+  text-refused rest [] h full = never h
+  text-refused {n = n} rest (b ∷ t) h full =
+      let (first, _, all) = trimmed-cons b t h in
+      refused 6 begins (text-begins b (every-cons text-byte b t all .0) first) (rw (le-leb 4096 n full))
+
   -- ---- tags
 
   -- a name of the list, and its tag
@@ -196,6 +222,26 @@ module _ (list : List ℕ) where
       (rw (← here) (byte opens (rw (letter-class b first) (leads .letter-opens)) (rw (here, eqb-false (l .some)))
       (run start-name name-byte (name-cases (Does start-name (to start-name)) (refl, refl) (refl, refl) (refl, refl))
       (λ b s. refl) name more)))
+
+  -- at depth 33, or as node 4,097, it is refused
+  pub start-refused : {p q : Place} {c : Document} {os : List Open} {n i : ℕ} (rest name : List ℕ) {a : ℕ}
+      → Leads p q → Listed name a → (length os < 32 → n < 4096 → ⊥) → Stops (state p c os n) i (60 ∷ (name ++ rest))
+  unfolding is-name
+  start-refused rest [] leads l beyond = never (l .named)
+  start-refused {p} {q} {c} {os} {n} {i} rest (b ∷ name) leads l beyond = go (told (leb 32 (length os)))
+    where
+      first : Yes (letter-byte b)
+      first = name-cons b name (l .named) .0
+
+      number : number-by (state p c os n) 60 (b ∷ (name ++ rest)) (to q)
+          ≡ cond (letter-byte b && leb 32 (length os)) 6 (cond ((letter-byte b || false) && leb 4096 n) 7 0)
+      number = leads .less-number (state p c os n) (b ∷ (name ++ rest))
+
+      go : Told (leb 32 (length os)) → Stops (state p c os n) i (60 ∷ b ∷ (name ++ rest))
+      go (yea deep) = refused 5 (to q) (leads .less-moves) (number ∙ rw (first, deep))
+      go (nay shallow) =
+          let many : 4096 ≤ n = not-below (beyond (leb-false 32 (length os) shallow)) in
+          refused 6 (to q) (leads .less-moves) (number ∙ rw (first, shallow, le-leb 4096 n many))
 
   -- a start tag; the tag of an empty element
   module _ {p q : Place} {name : List ℕ} {a : ℕ} (leads : Leads p q) (listed : Listed name a)
