@@ -36,6 +36,7 @@ pub mod Scan
 pub mod ScanLaws
 pub mod GrammarLaws
 pub mod FormScan
+pub mod FormGood
 pub mod Rewritten
 pub mod TextLaws
 pub mod Zipper

@@ -104,11 +104,11 @@ innermost-some s g [] a inside = absurd (omega arith)
 innermost-some s g (o ∷ os) a inside = a .0 .some
 
 -- the bytes of a written element
-tagged-empty : (name content : List ℕ) → length (tagged name ε content) ≡ 3 + length name
+pub tagged-empty : (name content : List ℕ) → length (tagged name ε content) ≡ 3 + length name
 unfolding tagged
 tagged-empty name content = omega (arith, length-append name (47 ∷ 62 ∷ []))
 
-tagged-most : (name : List ℕ) (d : Document) (content : List ℕ) → length
+pub tagged-most : (name : List ℕ) (d : Document) (content : List ℕ) → length
     (tagged name d content) ≤ 5 + length name + length name + length content
 unfolding tagged
 tagged-most name ε content = omega (arith, tagged-empty name content)
