@@ -15,16 +15,15 @@ use Rattle.model.specs.Names.{tag-of}
 use Rattle.model.specs.Text.{Place, before, root-open, blank, in-text, tag-open, start-name, start-gap, start-slash, end-open}
 use Rattle.model.specs.Text.{end-name, end-gap, after, Move, to, opens, begins, closes, stops, moves, move, move-number, does, Open}
 use Rattle.model.specs.Text.{State, start, name-at, behind, tag-node, outside, closed, moved, innermost, number-at, state, an-open}
-use Rattle.model.specs.Text.{scan}
+use Rattle.model.specs.Text.{scan, place-number}
 use Rattle.model.specs.Text as text
 use Rattle.model.specs.Grammar.{list-bytes, NameList, no-white, more-white, ElementAt, Form, form}
 use Rattle.model.specs.Grammar as grammar
-use Rattle.model.proofs.Tests.{Yes, same}
-use Rattle.model.proofs.CheckLaws.{passes-inj}
+use Rattle.model.proofs.Tests.{Yes, same, never}
+use Rattle.model.proofs.CheckLaws.{passes-inj, guarded}
 use Rattle.model.proofs.ByteLaws.{less-is, greater-is, slash-is}
 use Rattle.model.proofs.ReadSteps.{Allowed, not-stopped, row, name-class, text-class, solid-class, as-name-byte, as-text-byte}
 use Rattle.model.proofs.ReadSteps.{as-solid-byte}
-use Rattle.model.proofs.ReadGood.{guarded, is-after}
 use Rattle.model.proofs.Remaining.{Gap, Named, Texted, gap-on, gap-done, name-on, name-over, text-on, text-over, Outside, over}
 use Rattle.model.proofs.Remaining.{Closes, Closed, AfterStart, AfterEnd, Opens, FromTag, element-next, end-next, tag-next, blank-on}
 use Rattle.model.proofs.Remaining.{text-begun, ended, opened}
@@ -242,6 +241,22 @@ module _ (names : List (List ℕ)) (is-list : NameList names) (f c : Document) (
   back after = row (Row after) after-on stop stop stop stop stop stop stop stop
 
 -- ---- the text, from its end back to its start
+
+-- it may end only after the root
+is-after : (p : Place) → Yes (does (to p) (to after)) → p ≡ after
+unfolding does move-number place-number
+is-after before e = never e
+is-after root-open e = never e
+is-after blank e = never e
+is-after in-text e = never e
+is-after tag-open e = never e
+is-after start-name e = never e
+is-after start-gap e = never e
+is-after start-slash e = never e
+is-after end-open e = never e
+is-after end-name e = never e
+is-after end-gap e = never e
+is-after after e = refl
 
 module _ (names : List (List ℕ)) (is-list : NameList names) (f : Document) where
   remains : (r : List ℕ) (st : State) (i : ℕ) → scan (list-bytes names) st i r ≡ passes f

@@ -1,7 +1,7 @@
 -- One check after another: what it tells that a sequence of checks passes, and the number that a sequence refuses with.
 use mathlib.Core.Path.{_≡_, refl, ap, subst}
 use mathlib.Core.Logic.{_↔_}
-use mathlib.Core.Bool.{Bool, true, false}
+use mathlib.Core.Bool.{Bool, true, false, cond}
 use Prim.Native.Nat.{ℕ}
 use native.Mathlib.Omega.{arith}
 use Rattle.model.specs.Answers.{Checked, passes, refuses, _>>=_, _>>_, require}
@@ -50,6 +50,12 @@ pub required : {A : Type 0} {a : A} (b : Bool) (n i : ℕ) (c : Checked A) → (
 unfolding require _>>_
 required true n i c = (λ e. (refl, e), λ e. e .1)
 required false n i c = (λ e. absurd (refuses≢passes e), λ e. never (e .0))
+
+-- a test that passes, and what is said behind it
+pub guarded : {A : Type 0} (b : Bool) (next : Checked A) (n i : ℕ) {a : A} → cond b next (refuses n i) ≡ passes a
+    → Yes b × (next ≡ passes a)
+guarded true next n i e = (refl, e)
+guarded false next n i e = absurd (refuses≢passes e)
 
 -- ---- the number that a sequence refuses with
 

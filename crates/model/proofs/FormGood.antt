@@ -1,8 +1,7 @@
 -- A form by the grammar: its text words are good, and what is written of it is no longer than it.
 use mathlib.Core.Path.{_≡_, refl, sym, ap, subst, _∙_}
-use mathlib.Core.Bool.{true, _&&_}
-use mathlib.Core.List.{List, [], _∷_, _++_, append-assoc, append-nil}
-use Prim.Native.Nat.{ℕ, suc, _+_, _≤_}
+use mathlib.Core.List.{List, [], _∷_, _++_, append-assoc}
+use Prim.Native.Nat.{ℕ, _+_, _≤_}
 use native.Mathlib.Omega.{arith}
 use native.Mathlib.Nat.{zero-add}
 use lib.ListN.{length, take, drop, length-append}
@@ -14,14 +13,31 @@ use Rattle.model.specs.Bytes.{kind-of-text}
 use Rattle.model.specs.Names.{name-of}
 use Rattle.model.specs.Text.{text-node, tag-node}
 use Rattle.model.specs.Written.{source-bytes, tagged, written, writtenD, trimmed-text, good-text, good-words}
-use Rattle.model.specs.Grammar.{list-bytes, TagOf, NameList, White, start-bytes, end-bytes, empty-bytes, ElementAt, TagsAt, Form, form}
+use Rattle.model.specs.Grammar.{list-bytes, NameList, start-bytes, end-bytes, Form, form}
 use Rattle.model.proofs.Tests.{Yes, and-yes, eqb-yes}
 use Rattle.model.proofs.ListLaws.{every-both}
 use Rattle.model.proofs.DocumentLaws.{GoodNodes}
 use Rattle.model.proofs.TextLaws.{Rest}
 use Rattle.model.proofs.NameList.{tag-name}
-use Rattle.model.proofs.ReadSteps.{tagged-empty, tagged-most}
 use Rattle.model.proofs.GrammarLaws.{Kept, every-element}
+
+-- the bytes of a written element
+tagged-empty : (name content : List ℕ) → length (tagged name ε content) ≡ 3 + length name
+unfolding tagged
+tagged-empty name content = omega (arith, length-append name (47 ∷ 62 ∷ []))
+
+tagged-most : (name : List ℕ) (d : Document) (content : List ℕ) → length
+    (tagged name d content) ≤ 5 + length name + length name + length content
+unfolding tagged
+tagged-most name ε content = omega (arith, tagged-empty name content)
+tagged-most name (e · d) content =
+    let end = name ++ (62 ∷ []) in
+    omega (
+      arith,
+      length-append name (62 ∷ (content ++ (60 ∷ 47 ∷ end))),
+      length-append content (60 ∷ 47 ∷ end),
+      length-append name (62 ∷ []),
+    )
 
 module _ (source : List ℕ) where
   -- bytes at an offset, and what goes on after them

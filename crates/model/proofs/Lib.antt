@@ -39,14 +39,14 @@ pub mod FormScan
 pub mod FormGood
 pub mod Rewritten
 pub mod TextLaws
-pub mod Zipper
 pub mod ReadSteps
-pub mod ReadGood
 pub mod Remaining
 pub mod Backward
 pub mod Forms
+pub mod ReadGood
 pub mod RoundTrip
 pub mod Formcheck
+pub mod Inputs
 pub mod Examples
 pub mod LargeInputs
 pub mod Cut
