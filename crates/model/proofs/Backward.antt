@@ -75,9 +75,9 @@ module _ (names : List (List ℕ)) (is-list : NameList names) (f c : Document) (
 
   -- of class k, at place p, it does m
   abbrev Back : Place → Class → Move → Type 0
-  Back p k m = class-of b ≡ k → Allowed list os n b t m → After (moved list (state p c os n) i (b ∷ t) m) → At p
+  Back p k m = class-of b ≡ k → Allowed list os b t m → After (moved list (state p c os n) i (b ∷ t) m) → At p
 
-  stop : {k : Class} {A : Type 0} → class-of b ≡ k → Allowed list os n b t stops → A
+  stop : {k : Class} {A : Type 0} → class-of b ≡ k → Allowed list os b t stops → A
   unfolding does move-number
   stop e a = absurd (true≢false (a .goes-on))
 
@@ -190,7 +190,7 @@ module _ (names : List (List ℕ)) (is-list : NameList names) (f c : Document) (
 
   -- ---- a name begins
 
-  opens-at : class-of b ≡ letter → Allowed list os n b t opens
+  opens-at : class-of b ≡ letter → Allowed list os b t opens
       → Remains names f ε (an-open (tag-of list (name-at (b ∷ t))) c ∷ os) (suc i) t start-name
       → (j : ℕ) → i ≡ suc j → Opens names f os c j (less-byte ∷ b ∷ t)
   unfolding does move-number is class-number

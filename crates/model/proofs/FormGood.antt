@@ -17,7 +17,6 @@ use Rattle.model.specs.Grammar.{list-bytes, NameList, start-bytes, end-b
 use Rattle.model.proofs.Tests.{Yes, and-yes, eqb-yes}
 use Rattle.model.proofs.ListLaws.{every-both}
 use Rattle.model.proofs.DocumentLaws.{GoodNodes}
-use Rattle.model.proofs.TextLaws.{Rest}
 use Rattle.model.proofs.NameList.{tag-name}
 use Rattle.model.proofs.GrammarLaws.{Kept, every-element}
 
@@ -38,6 +37,11 @@ tagged-most name (e · d) content =
       length-append content (60 ∷ 47 ∷ end),
       length-append name (62 ∷ []),
     )
+
+-- at offset i the text s goes on as r
+record Rest (s : List ℕ) (i : ℕ) (r : List ℕ) : Type 0 where
+  within : i + length r ≡ length s
+  front : drop i s ≡ r
 
 module _ (source : List ℕ) where
   -- bytes at an offset, and what goes on after them
@@ -108,9 +112,10 @@ module _ (source : List ℕ) where
       if-over = λ r h. (refl, omega arith);
       if-more = λ {s = s} {t} {e} {d} x element content r h.
           let (good, short) = element (t ++ r) (first-part s t r h) in
-          let (good′, short′) = content r (second-part s t r h) in
-          (every-both (good-words source) (nodes e) (nodesD d) good good′,
-          omega (arith, length-append (written list source e) (writtenD list source d), length-append s t));
+          let (good′, short′) = content r (second-part s t r h) in (
+            every-both (good-words source) (nodes e) (nodesD d) good good′,
+            omega (arith, length-append (written list source e) (writtenD list source d), length-append s t),
+          );
     }
 
 -- the text words of its nodes are good, and what is written of it is no longer

@@ -3,26 +3,23 @@ use mathlib.Core.Path.{_≡_, refl, ap, _∙_}
 use mathlib.Core.Logic.{_≢_}
 use mathlib.Core.Bool.{Bool, true, false, cond, not, _&&_, _||_}
 use mathlib.Core.List.{List, _∷_}
-use Prim.Native.Nat.{ℕ, suc, _<_}
+use Prim.Native.Nat.{ℕ, suc}
 use native.Mathlib.Omega.{arith}
-use borrow.Author.Tests.{leb-false, not-false}
-use lib.ListN.{length}
+use borrow.Author.Tests.{not-false}
 use Rattle.model.specs.Bytes.{Class, white, letter, digit, hyphen, less, greater, slash, other, forbidden, is, class-of, name-byte}
 use Rattle.model.specs.Names.{tag-of}
-use Rattle.model.specs.Text.{Move, opens, begins, names, stops, move, does, Open, State, name-at, refusal-2, refusal-3, refusal-4}
-use Rattle.model.specs.Text.{innermost, refusal-5, start-tag, refusal-6, refusal-7, number-at}
+use Rattle.model.specs.Text.{Move, opens, names, stops, move, does, Open, State, name-at, refusal-2, refusal-3, refusal-4, innermost}
+use Rattle.model.specs.Text.{refusal-5, number-at}
 use Rattle.model.specs.Written.{text-byte, solid-byte}
 use Rattle.model.proofs.Tests.{Yes, never, same, eqb-no}
 
 -- ---- a byte that is not refused
 
--- what the refusals 3 to 7 leave of a move m by byte b
-pub record Allowed (list : List ℕ) (os : List Open) (n b : ℕ) (t : List ℕ) (m : Move) : Type 0 where
+-- what the refusals 3 to 5 leave of a move m by byte b
+pub record Allowed (list : List ℕ) (os : List Open) (b : ℕ) (t : List ℕ) (m : Move) : Type 0 where
   pub goes-on : does m stops ≡ false
   pub listed : Yes (does m opens) → tag-of list (name-at (b ∷ t)) ≢ 0
   pub innermost-named : Yes (does m names) → tag-of list (name-at (b ∷ t)) ≡ innermost os
-  shallow : Yes (start-tag m t) → length os < 32
-  few : Yes (start-tag m t || does m begins) → n < 4096
 
 not-refused : (b : Bool) (k m : ℕ) → cond b (suc k) m ≡ 0 → (b ≡ false) × (m ≡ 0)
 not-refused true k m e = absurd (omega arith)
@@ -33,21 +30,17 @@ fails true b e t = e
 fails false b e t = never t
 
 pub not-stopped : (list : List ℕ) (st : State) (b : ℕ) (t : List ℕ) → number-at list st (b ∷ t) ≡ 0
-    → Allowed list (st .opened) (st .nodes) b t (move (st .place) (class-of b))
-unfolding number-at refusal-2 refusal-3 refusal-4 refusal-5 refusal-6 refusal-7
+    → Allowed list (st .opened) b t (move (st .place) (class-of b))
+unfolding number-at refusal-2 refusal-3 refusal-4 refusal-5
 not-stopped list st b t e =
     let (r2, e2) = not-refused (refusal-2 st (b ∷ t)) 1 _ e in
     let (r3, e3) = not-refused (refusal-3 st (b ∷ t)) 2 _ e2 in
     let (r4, e4) = not-refused (refusal-4 list st (b ∷ t)) 3 _ e3 in
     let (r5, e5) = not-refused (refusal-5 list st (b ∷ t)) 4 _ e4 in
-    let (r6, e6) = not-refused (refusal-6 st (b ∷ t)) 5 _ e5 in
-    let (r7, e7) = not-refused (refusal-7 st (b ∷ t)) 6 _ e6 in
     record {
       goes-on = r3;
       listed = λ h. eqb-no (fails _ _ r4 h);
       innermost-named = λ h. same _ _ (not-false _ (fails _ _ r5 h));
-      shallow = λ h. leb-false 32 _ (fails _ _ r6 h);
-      few = λ h. leb-false 4096 _ (fails _ _ r7 h);
     }
 
 -- what a byte of a class may stand in: a name; a text; the ends of a text
