@@ -1,4 +1,4 @@
--- The one pass over a form by the grammar: it takes the form, with the grammar's tree, where the tree keeps the rules, and refuses it elsewhere.
+-- The one pass over a form by the grammar: it takes the form, with the grammar's tree, exactly where the tree keeps the rules.
 use mathlib.Core.Path.{_≡_, refl, sym, subst, subst₂, _∙_}
 use mathlib.Core.Bool.{Bool, true, false, and-false}
 use mathlib.Core.List.{List, [], _∷_, _++_, append-assoc, append-nil}
@@ -6,6 +6,8 @@ use Prim.Native.Nat.{ℕ, suc, _+_, _-_, _≤_, _<_}
 use native.Mathlib.Omega.{arith}
 use native.Mathlib.Nat.{zero-add}
 use lib.ListN.{length}
+use lib.Dec.{leb}
+use borrow.Author.Tests.{leb-true, leb-false}
 use Rattle.model.specs.Answers.{passes}
 use Rattle.model.specs.Tree.{Element, Document, ε, _·_, size, sizeD, is-text, Keeps, KeepsD, Over}
 use Rattle.model.specs.Bytes.{class-number, is, class-of}
@@ -13,16 +15,13 @@ use Rattle.model.specs.Text.{Place, blank, Open, State, text-at, behind,
 use Rattle.model.specs.Text.{root-open, in-text, tag-open, an-open, start, after}
 use Rattle.model.specs.Grammar.{list-bytes, TagOf, NameList, start-bytes, end-bytes, ElementAt, empty, full, TagsAt, no-more, more}
 use Rattle.model.specs.Grammar.{Form, form, White, empty-bytes, GoodForm}
-use Rattle.model.specs.Grammar as grammar
+use Rattle.model.specs.Written.{trimmed-text}
 use Rattle.model.proofs.DocumentLaws.{followed, followed-ε, followed-behind, ends-in-text}
 use Rattle.model.proofs.NameList.{tag-numbers}
 use Rattle.model.proofs.ScanLaws.{content-place, white-no-text, Scans, nothing, then, before-run, after-run, blank-run, trailing-run}
 use Rattle.model.proofs.ScanLaws.{text-run, Listed, Leads, at-root, in-content, start-tag-run, empty-tag-run, end-tag-run, form-read}
 use Rattle.model.proofs.ScanLaws.{Stops, text-refused, start-refused}
 use Rattle.model.proofs.CheckLaws.{refuses≢passes}
-use Rattle.model.specs.Written.{trimmed-text}
-use lib.Dec.{leb}
-use borrow.Author.Tests.{leb-true, leb-false}
 use Rattle.model.proofs.Tests.{Yes, Told, yea, nay, told}
 use Rattle.model.proofs.TextLaws.{kind-range}
 use Rattle.model.proofs.GrammarLaws.{Kept, every-element}
@@ -44,7 +43,7 @@ tags-no-text (more (full t v d u) c) r = refl
 -- ---- bytes that are taken exactly within limits
 
 module _ (list : List ℕ) where
-  -- the pass comes from one state to another within the limits W, and refuses the text beyond them
+  -- within the limits W the pass comes from one state to another, and beyond them it refuses the text
   data Pass (W : Type 0) (st : State) (i : ℕ) (bytes rest : List ℕ) (st′ : State) : Type 0 where
     within : W → Scans list st i bytes rest st′ → Pass W st i bytes rest st′
     beyond : (W → ⊥) → Stops list st i (bytes ++ rest) → Pass W st i bytes rest st′
@@ -65,14 +64,17 @@ module _ (list : List ℕ) where
       → Pass W st′ (i + length xs) ys rest st″ → Pass W st i (xs ++ ys) rest st″
   after-pass {xs = xs} r q = then-pass {xs = xs} (within tt r) (λ v. tt {0}) (λ u. q)
 
-  -- the limits, and the state come to, put another way
+  -- the state come to, put another way; and the limits
+  ends-as : {st : State} {i : ℕ} {xs rest : List ℕ} {p : Place} {c c′ : Document} {os : List Open} {n n′ : ℕ}
+      → Scans list st i xs rest (state p c os n) → c ≡ c′ → n ≡ n′ → Scans list st i xs rest (state p c′ os n′)
+  ends-as {st} {i} {xs} {rest} {p} {os = os} r e f = subst₂ (λ c n. Scans list st i xs rest (state p c os n)) e f r
+
   pass-as : {W X : Type 0} {st : State} {i : ℕ} {xs rest : List ℕ} {p : Place} {c c′ : Document} {os : List Open} {n n′ : ℕ}
       → Pass W st i xs rest (state p c os n) → (W → X) → (X → W) → c ≡ c′ → n ≡ n′ → Pass X st i xs rest (state p c′ os n′)
-  pass-as {st = st} {i} {xs} {rest} {p} {os = os} (within w r) f g e h =
-      within (f w) (subst₂ (λ c n. Scans list st i xs rest (state p c os n)) e h r)
+  pass-as (within w r) f g e h = within (f w) (ends-as r e h)
   pass-as (beyond n s) f g e h = beyond (λ x. n (g x)) s
 
-  -- a start tag or the tag of an empty element, whose name X follows
+  -- A start tag or the tag of an empty element, by its name and the bytes after it. It wants a level and a node.
   tag-pass : {W : Type 0} {p q : Place} {c : Document} {os : List Open} {n i a : ℕ} {st : State} (name xs rest : List ℕ)
       → Leads list p q → Listed list name a → (W → (length os < 32) × (n < 4096))
       → (length os < 32 → n < 4096 → W × Scans list (state p c os n) i (60 ∷ (name ++ xs)) rest st)
@@ -88,6 +90,7 @@ module _ (list : List ℕ) where
       go (nay shallow) (yea many) = no (λ h k. let d = leb-true 4096 n many in omega arith)
       go (nay shallow) (nay room) = let (w, r) = runs (leb-false 32 (length os) shallow) (leb-false 4096 n room) in within w r
 
+  -- a text, which wants a node
   text-pass : {c : Document} {os : List Open} {n i : ℕ} (t rest : List ℕ) → Yes (trimmed-text t) → text-at rest ≡ []
       → Pass (n < 4096) (state blank c os n) i t rest (state in-text (behind c (text-node i t)) os (suc n))
   text-pass {c} {os} {n} {i} t rest h e = go (told (leb 4096 n))
@@ -112,11 +115,8 @@ module _ (names : List (List ℕ)) (is-list : NameList names) where
     some = λ e. omega (arith, t .some);
   }
 
-  ends-as : {st : State} {i : ℕ} {xs rest : List ℕ} {p : Place} {c c′ : Document} {os : List Open} {n n′ : ℕ}
-      → Scans list st i xs rest (state p c os n) → c ≡ c′ → n ≡ n′ → Scans list st i xs rest (state p c′ os n′)
-  ends-as {st} {i} {xs} {rest} {p} {os = os} r e f = subst₂ (λ c n. Scans list st i xs rest (state p c os n)) e f r
-
-  -- an element, content, and content from a tag on, below the open elements os
+  -- An element, and content, below the open elements os: the limits are that it keeps the rules and has no node past 4,096. Content from
+  -- a tag on may stand after a text or not.
   abbrev ElementPasses : ℕ → List ℕ → Element → Type 0
   ElementPasses i s e = (p q : Place) (c : Document) (os : List Open) (n : ℕ) (rest : List ℕ) → Leads list p q
       → Pass list (Keeps g (32 - length os) e × (n + size e ≤ 4096))
@@ -134,7 +134,7 @@ module _ (names : List (List ℕ)) (is-list : NameList names) where
       tag-pass list name (w ++ (47 ∷ 62 ∷ [])) rest leads (listed t) (λ (k, f). (omega (arith, k .2), omega arith))
       (λ deep room. (
         ((t .some, t .listed, omega arith, tt), omega arith),
-        ends-as (empty-tag-run list leads (listed t) deep room v) refl (omega arith),
+        ends-as list (empty-tag-run list leads (listed t) deep room v) refl (omega arith),
       ))
 
   full-step : {i a : ℕ} {name w w′ s : List ℕ} (d : Document) → TagOf names a name → White w
@@ -152,7 +152,7 @@ module _ (names : List (List ℕ)) (is-list : NameList names) where
       (λ (k, f). (subst (λ (l : ℕ). KeepsD g l false d) below (k .3), omega arith))
       (λ (k, f). within
       ((t .some, t .listed, omega arith, subst (λ (l : ℕ). KeepsD g l false d) (sym below) k), omega arith)
-      (ends-as (end-tag-run list (in-content list (ends-in-text false d)) (listed t) u) refl (omega arith))))
+      (ends-as list (end-tag-run list (in-content list (ends-in-text false d)) (listed t) u) refl (omega arith))))
 
   text-step : {i : ℕ} {w w′ s : List ℕ} {d : Document} (t : List ℕ) → White w → trimmed-text t ≡ true → White w′
       → TagsAt names (i + length w + length t + length w′) s d
@@ -180,7 +180,7 @@ module _ (names : List (List ℕ)) (is-list : NameList names) where
 
   over-step : {i : ℕ} (b : Bool) → ContentPasses b i [] ε
   unfolding size ends-in-text
-  over-step b c o os n rest few = within (tt, omega arith) (ends-as (nothing list) (sym (followed-ε c)) (omega arith))
+  over-step b c o os n rest few = within (tt, omega arith) (ends-as list (nothing list) (sym (followed-ε c)) (omega arith))
 
   kept : Kept names ElementPasses (ContentPasses false) (λ i s d. (b : Bool) → ContentPasses b i s d)
   kept = record {
@@ -192,8 +192,11 @@ module _ (names : List (List ℕ)) (is-list : NameList names) where
     if-more = λ {d = d} x element content. more-step d x element content;
   }
 
-  form-passes : {s : List ℕ} {e : Element} → Form names s e
-      → Pass list (Keeps g 32 e × (0 + size e ≤ 4096)) start 0 s [] (state after (e · ε) [] (0 + size e))
+  -- a form
+  abbrev FormPasses : List ℕ → Element → Type 0
+  FormPasses s e = Pass list (Keeps g 32 e × (0 + size e ≤ 4096)) start 0 s [] (state after (e · ε) [] (0 + size e))
+
+  form-passes : {s : List ℕ} {e : Element} → Form names s e → FormPasses s e
   unfolding outside behind
   form-passes (form {w} {w′} {s} {e} v x u) =
       let root = subst (λ (i : ℕ). ElementAt names i s e) (sym (zero-add (length w))) x in
@@ -204,17 +207,17 @@ module _ (names : List (List ℕ)) (is-list : NameList names) where
   form-tag : {s : List ℕ} {e : Element} → Form names s e → is-text e ≡ false
   form-tag (form v x u) = element-tag x
 
-  -- a form whose tree keeps the rules is read as that tree, and only such a form is taken
+  -- where its tree keeps the rules it is read as that tree; and only there
   pub form-taken : {s : List ℕ} {e : Element} → GoodForm names s e → form-of list s ≡ passes (e · ε)
   form-taken {s} {e} good = go (form-passes (good .is-form))
     where
-      go : Pass list (Keeps g 32 e × (0 + size e ≤ 4096)) start 0 s [] (state after (e · ε) [] (0 + size e)) → form-of list s ≡ passes (e · ε)
+      go : FormPasses s e → form-of list s ≡ passes (e · ε)
       go (within y r) = form-read list (good .short) r
       go (beyond n r) = absurd (n (good .keeps .keeps, omega (arith, good .keeps .few)))
 
   pub form-keeps : {s : List ℕ} {e : Element} {d : Document} → Form names s e → scan list start 0 s ≡ passes d → Over g e
   form-keeps {s} {e} {d} is-form taken = go (form-passes is-form)
     where
-      go : Pass list (Keeps g 32 e × (0 + size e ≤ 4096)) start 0 s [] (state after (e · ε) [] (0 + size e)) → Over g e
+      go : FormPasses s e → Over g e
       go (within (k, f) r) = record { root = form-tag is-form; keeps = k; few = omega arith }
       go (beyond n r) = absurd (refuses≢passes (sym (rw append-nil at (r .says)) ∙ taken))

@@ -45,7 +45,8 @@ module _ {names : List (List ℕ)} {E : ℕ → List ℕ → Element → Type 0}
     by-content zero c h = absurd (omega arith)
     by-content (suc k) (blank {w = w} {s} v ts) h = kept .if-blank v (by-tags k ts (omega (arith, length-append w s)))
     by-content (suc k) (text {w = w} {w′} {s} t v y u ts) h =
-        kept .if-text t v y u ts (by-tags k ts (omega (arith, length-append w (t ++ (w′ ++ s)), length-append t (w′ ++ s), length-append w′ s)))
+        let fewer : length s < k = omega (arith, length-append w (t ++ (w′ ++ s)), length-append t (w′ ++ s), length-append w′ s) in
+        kept .if-text t v y u ts (by-tags k ts fewer)
 
     by-tags : (k : ℕ) {i : ℕ} {s : List ℕ} {d : Document} → TagsAt names i s d → length s < k → T i s d
     by-tags zero ts h = absurd (omega arith)

@@ -8,8 +8,8 @@ use Rattle.model.specs.Tree.{Element, Document, ε, _·_, nodes, Over}
 use Rattle.model.specs.Names.{names-of}
 use Rattle.model.specs.Text.{form-of}
 use Rattle.model.specs.Written.{written, texts-checked}
-use Rattle.model.proofs.DocumentLaws.{texts-good}
 use Rattle.model.specs.Grammar.{list-bytes, NameList}
+use Rattle.model.proofs.DocumentLaws.{texts-good}
 use Rattle.model.proofs.NameList.{names-pass}
 use Rattle.model.proofs.FormGood.{form-good}
 use Rattle.model.proofs.Forms.{text-passes}

@@ -16,13 +16,13 @@ use Rattle.model.specs.Bytes.{less-byte, greater-byte, kind-of-text}
 use Rattle.model.specs.Names.{name-of, names-of}
 use Rattle.model.specs.Text.{text-node, tag-node, form-of}
 use Rattle.model.specs.Written.{source-bytes, tagged, written, writtenD, trimmed-text, good-text, good-words, texts-checked}
+use Rattle.model.specs.Grammar.{list-bytes, TagOf, NameList, no-white, end-bytes, ElementAt, empty, full, ContentAt, TagsAt, no-more}
+use Rattle.model.specs.Grammar.{more, Form, form}
+use Rattle.model.specs.Grammar as grammar
 use Rattle.model.proofs.ListLaws.{every-cons, every-append}
 use Rattle.model.proofs.Tests.{Yes, never, and-left, and-right, same}
 use Rattle.model.proofs.DocumentLaws.{GoodNodes, texts-good}
 use Rattle.model.proofs.NameLaws.{tag-of-name}
-use Rattle.model.specs.Grammar.{list-bytes, TagOf, NameList, no-white, end-bytes, ElementAt, empty, full, ContentAt, TagsAt, no-more}
-use Rattle.model.specs.Grammar.{more, Form, form}
-use Rattle.model.specs.Grammar as grammar
 use Rattle.model.proofs.NameList.{names-checked, tag-numbers, names-pass}
 use Rattle.model.proofs.FormScan.{form-taken}
 
