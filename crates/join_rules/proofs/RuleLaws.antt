@@ -3,7 +3,7 @@ use mathlib.Core.Path.{_≡_, refl, sym, ap, _∙_}
 use mathlib.Core.List.{List, [], _∷_, _++_, flatMap}
 use Prim.Native.Nat.{ℕ, _+_, _/_, _^_, _≤_, _<_}
 use native.Mathlib.Omega.{arith}
-use lib.ListN.{getD}
+use lib.ListN.{length, getD}
 use lib.Seq.{slice}
 use Rattle.model.specs.Sheet.{Rule, rule-words}
 use Rattle.model.specs.Spans.{RuleAt}
@@ -11,7 +11,7 @@ use Rattle.model.specs.Index.{sheet-in}
 use Rattle.model.specs.Compose as model
 use Rattle.model.specs.Compose.{pair, of-pairs}
 use Rattle.model.proofs.ListLaws.{each-append}
-use Rattle.model.proofs.PartLaws.{word-is}
+use Rattle.model.proofs.PartLaws.{word-within, word-is}
 use Rattle.model.proofs.RuleWords.{as-text, as-tag, text-key, tag-key}
 use Rattle.page.specs.Page.{Writes}
 use Rattle.page.proofs.PageLaws.{as-words, Left, more}
@@ -29,44 +29,58 @@ use Rattle.join_rules.specs.Written.{state-in, StatesAt, row-words}
 
 -- ---- texts and tags
 
+-- word k of two rules is a state of each
+abbrev TwoStates : (p q a b : ℕ) (s t : List ℕ) (k : ℕ) → Type 0
+TwoStates p q a b s t k =
+    ((a + k < length s) × (getD s (a + k) 0 < p)) × ((b + k < length t) × (getD t (b + k) 0 < q))
+
+state-here : {p a : ℕ} {s : List ℕ} {x : Rule} (h : RuleAt p s a x) (k : ℕ) → k < length (rule-words p x) → getD (rule-words p x) k 0 < p
+    → (a + k < length s) × (getD s (a + k) 0 < p)
+state-here h k l m = (word-within (h .there) k l, rw (word-is (h .there) k l) m)
+
 module _ {n : model.Sizes} {p q a b : ℕ} {s t : List ℕ} where
   text-rule : {x y z : Rule} → JointOf n x y z → RuleAt p s a x → RuleAt q t b y → getD s a 0 ≡ 33
       → (33 ∷ getD s (a + 1) 0 ∷ pair (n .of-T) (getD s (a + 2) 0) (getD t (b + 2) 0) ∷ [] ≡ rule-words (of-pairs n) z)
-      × (getD s (a + 2) 0 < p) × (getD t (b + 2) 0 < q)
+      × TwoStates p q a b s t 2
   unfolding rule-words
-  text-rule (texts k s t) h i e =
-      rw (text-key h .1, word-is (h .there) 2 (omega arith), word-is (i .there) 2 (omega arith)) (refl, h .ranges .2, i .ranges .2)
+  text-rule (texts k s t) h i e = (
+    rw (text-key h .1, word-is (h .there) 2 (omega arith), word-is (i .there) 2 (omega arith)),
+    (state-here h 2 (omega arith) (h .ranges .2), state-here i 2 (omega arith) (i .ranges .2)),
+  )
   text-rule (tags g c d s t) h i e = absurd (omega (arith, tag-key h .0))
   text-rule (contents o u φ ψ s t) h i e = let (k, q, j) = as-text _ h e in let z : _≡_ {A = ℕ} 0 1 = cc j in absurd (omega arith)
 
   tag-rule : {x y z : Rule} → JointOf n x y z → RuleAt p s a x → RuleAt q t b y → getD s a 0 ≡ 38
       → (38 ∷ getD s (a + 1) 0 ∷ pair (n .of-T) (getD s (a + 2) 0) (getD t (b + 2) 0) ∷ pair (n .of-T) (getD s (a + 3) 0) (getD t (b + 3) 0)
       ∷ [] ≡ rule-words (of-pairs n) z)
-      × (getD s (a + 2) 0 < p) × (getD t (b + 2) 0 < q) × (getD s (a + 3) 0 < p) × (getD t (b + 3) 0 < q)
+      × TwoStates p q a b s t 2 × TwoStates p q a b s t 3
   unfolding rule-words
   tag-rule (texts k s t) h i e = absurd (omega (arith, text-key h .0))
-  tag-rule (tags g c d s t) h i e =
-      rw (
-        tag-key h .1,
-        word-is (h .there) 2 (omega arith),
-        word-is (i .there) 2 (omega arith),
-        word-is (h .there) 3 (omega arith),
-        word-is (i .there) 3 (omega arith),
-      ) (refl, h .ranges .2, i .ranges .2, h .ranges .3, i .ranges .3)
+  tag-rule (tags g c d s t) h i e = (
+    rw (
+      tag-key h .1,
+      word-is (h .there) 2 (omega arith),
+      word-is (i .there) 2 (omega arith),
+      word-is (h .there) 3 (omega arith),
+      word-is (i .there) 3 (omega arith),
+    ),
+    (state-here h 2 (omega arith) (h .ranges .2), state-here i 2 (omega arith) (i .ranges .2)),
+    (state-here h 3 (omega arith) (h .ranges .3), state-here i 3 (omega arith) (i .ranges .3)),
+  )
   tag-rule (contents o u φ ψ s t) h i e = let (g, c, q, j) = as-tag _ h e in let z : _≡_ {A = ℕ} 0 1 = cc j in absurd (omega arith)
 
 module _ {u v : List ℕ} {n : Sizes} {r : RulePair} (h : Alike u v n r) where
   -- the joint states are small
-  small : {k : ℕ} → getD u (r .s .at + k) 0 < sheet-in u .states → getD v (r .t .at + k) 0 < sheet-in v .states → StatesAt u v n r k
-  small s t = record {
+  small : (k : ℕ) → TwoStates (sheet-in u .states) (sheet-in v .states) (r .s .at) (r .t .at) u v k → StatesAt u v n r k
+  small k ((i, s), (j, t)) = record {
     few = few-states h .1;
-    first = omega (arith, few-states h, states-S h);
-    second = omega (arith, few-states h, states-T h);
+    first = (i, omega (arith, few-states h, states-S h));
+    second = (j, omega (arith, few-states h, states-T h));
   }
 
   module _ (e : getD u (r .s .at) 0 ≡ 33) where
     pub text-states : StatesAt u v n r 2
-    text-states = let (_, s, t) = text-rule (alike-paired h .1) (h .first .begins) (h .second .begins) e in small s t
+    text-states = small 2 (text-rule (alike-paired h .1) (h .first .begins) (h .second .begins) e .1)
 
     pub text-written : {l l′ : List ℕ} {i i′ k q : ℕ} → k ≡ getD u (r .s .at + 1) 0 → q ≡ state-in u v n r 2
         → Writes l i (slice 0 3 (33 ∷ k ∷ q ∷ [])) l′ i′ → Writes l i (pair-words u v n r) l′ i′
@@ -77,8 +91,8 @@ module _ {u v : List ℕ} {n : Sizes} {r : RulePair} (h : Alike u v n r) where
   module _ (e : getD u (r .s .at) 0 ≡ 38) where
     pub tag-states : StatesAt u v n r 2 × StatesAt u v n r 3
     tag-states =
-        let (_, s, t, x, y) = tag-rule (alike-paired h .1) (h .first .begins) (h .second .begins) e in
-        (small s t, small x y)
+        let (_, inner, target) = tag-rule (alike-paired h .1) (h .first .begins) (h .second .begins) e in
+        (small 2 inner, small 3 target)
 
     pub tag-written : {l l′ : List ℕ} {i i′ g j q : ℕ} → g ≡ getD u (r .s .at + 1) 0 → j ≡ state-in u v n r 2 → q ≡ state-in u v n r 3
         → Writes l i (slice 0 4 (38 ∷ g ∷ j ∷ q ∷ [])) l′ i′ → Writes l i (pair-words u v n r) l′ i′

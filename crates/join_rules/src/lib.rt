@@ -26,9 +26,9 @@ fn joint_state(first: &[u32], second: &[u32], rules: RulePair, sizes: Sizes, k: 
     requires { ⌜ StatesAt (now first) (now second) sizes rules k ⌝ }
     ensures { λ r. ⌜ r ≡ state-in (now (first .entry)) (now (second .entry)) sizes rules k ⌝ }
 {
-    let s = field(first, rules.s.at, k);
-    let t = field(second, rules.t.at, k);
-    pair(sizes.t, s, t)
+    let s = rules.s.at + k;
+    let t = rules.t.at + k;
+    pair(sizes.t, first[s], second[t])
 }
 
 // Writes the joint rule of two rules of a text: its kind and the pair of the targets.
