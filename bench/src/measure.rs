@@ -140,11 +140,20 @@ pub fn count(tasks: &mut [&mut dyn Task]) {
     }
 }
 
+/// Has the C library fill memory by stores. Its string instruction is one instruction, which callgrind
+/// counts once for each byte.
+const FILL_BY_STORES: (&str, &str) = (
+    "GLIBC_TUNABLES",
+    "glibc.cpu.x86_rep_stosb_threshold=1000000",
+);
+
 /// The instructions that the tasks take, in their order, counted in a run of this program under
 /// callgrind with some arguments; `None` where valgrind isn't installed.
 pub fn instructions(arguments: &[&str], folder: &Path) -> io::Result<Option<Vec<Value>>> {
     let out = folder.join("callgrind");
+    let (name, value) = FILL_BY_STORES;
     let run = Command::new("valgrind")
+        .env(name, value)
         .arg("--tool=callgrind")
         .arg("--toggle-collect=bench_counted")
         .arg("--dump-after=bench_counted")
