@@ -2,7 +2,7 @@
 use mathlib.Core.Path.{_≡_, refl, sym, ap, ap₂, _∙_, subst}
 use mathlib.Core.Bool.{Bool, true, false, cond}
 use mathlib.Core.List.{List}
-use Prim.Native.Nat.{ℕ, _+_, _*_, _≤_, _<_}
+use Prim.Native.Nat.{ℕ, _+_, _*_, _^_, _≤_, _<_}
 use native.Mathlib.Omega.{arith}
 use lib.Dec.{leb}
 use lib.ListN.{length, getD}
@@ -23,8 +23,8 @@ use Rattle.join_alike.specs.Alike.{pairs-in, joint-rules-in, Joinable, FewPosit
 use Rattle.join_limits.specs.declared.Tally.{Tally}
 use Rattle.join_limits.specs.Limits.{place-in, first-place, LimitOf}
 use Rattle.join_sheets.specs.Sheets.{joint-in, WithinLimits}
-use Rattle.compose.specs.Joins.{Within, lent, fitted, Fits, Limits}
-use Rattle.compose.proofs.AnswerLaws.{gives-by, gives-refusal, gives-short, gives-words}
+use Rattle.compose.specs.Joins.{lent, limited, Limits}
+use Rattle.compose.proofs.AnswerLaws.{gives-refusal, gives-short, gives-words}
 
 -- ---- the limits of rules
 
@@ -120,45 +120,40 @@ module _ {u i v j : List ℕ} (h : Joinable u i v j) {t : Tally} (k : LimitOf (p
       gives-refusal out (rw (limits-over (joint-in u v) few-joint l′, first-limit))
 
   module _ (l : 6 ≤ t .place) where
-    none-over : 6 ≤ first-place (joint-in u v .rules)
-    none-over = omega (arith, first-limit)
+    abbrev words : List ℕ
+    words = sheet-words (joint-in u v)
 
-    pub within : Within u i v j t
+    none-over : (within-limits (joint-in u v) ≡ require (leb (length words) 16384) 21 6) × (length (joint-in u v .rules) ≤ 1024)
+        × FewPositions (joint-in u v .rules)
+    none-over = limits-within (joint-in u v) few-joint (omega (arith, first-limit))
+
+    -- six words come before the rules
+    long : 6 + t .words ≡ length words
+    unfolding joint sheet-words set-words
+    long = omega (arith, k .within l .words)
+
+    pub few-rules : (t .rules ≤ 1024) × (t .words ≤ 2 ^ 31)
     unfolding joint
-    within =
-        let (_, few, positions) = limits-within (joint-in u v) few-joint none-over in
-        record { both = h; tally = k .within l; few-rules = omega (arith, k .within l .rules); few-positions = positions }
+    few-rules =
+        let few : t .rules ≤ 1024 = omega (arith, k .within l .rules, none-over .1) in
+        (few, omega (arith, k .within l .few .few))
 
-    pub rules-within : {out : List ℕ} {x : Said} {y : List ℕ} → Fits u v out x y → Limits u v out x y
-    rules-within {out} =
-        gives-by (ap (λ (c : Checked (Unit {0})). c >> lent (sheet-words (joint-in u v)) (length out))
-        (limits-within (joint-in u v) few-joint none-over .0))
+    pub within-limits-of-rules : WithinLimits u i v j (t .rules)
+    unfolding joint
+    within-limits-of-rules = record { both = h; few-positions = none-over .2; number = k .within l .rules }
 
--- ---- the limit of words, and their room
-
-module _ {u i v j : List ℕ} {t : Tally} (k : Within u i v j t) where
-  pub within-limits-of-rules : WithinLimits u i v j (t .rules)
-  within-limits-of-rules = record { both = k .both; few-positions = k .few-positions; number = k .tally .rules }
-
-  -- six words come before the rules
-  long : 6 + t .words ≡ length (sheet-words (joint-in u v))
-  unfolding joint sheet-words set-words
-  long = omega (arith, k .tally .words)
-
-  module _ (out : List ℕ) where
-    pub words-over : 16384 < 6 + t .words → Fits u v out (refusal 21 6) out
-    unfolding require _>>_
-    words-over h = gives-refusal out (rw (tests.lt-leb (length (sheet-words (joint-in u v))) 16384 (omega (arith, long))))
-
-    module _ (h : 6 + t .words ≤ 16384) where
-      fits : fitted (joint-in u v) (length out) ≡ lent (sheet-words (joint-in u v)) (length out)
+    module _ (out : List ℕ) where
+      pub words-over : 16384 < 6 + t .words → Limits u v out (refusal 21 6) out
       unfolding require _>>_
-      fits = rw (tests.le-leb (length (sheet-words (joint-in u v))) 16384 (omega (arith, long)))
+      words-over m = gives-refusal out (rw (none-over .0, tests.lt-leb (length words) 16384 (omega (arith, long))))
 
-      pub words-short : length out < 6 + t .words → Fits u v out (refusal 22 (6 + t .words)) out
-      words-short l =
-          subst (λ (m : ℕ). Fits u v out (refusal 22 m) out) (sym long) (gives-short out (sheet-words (joint-in u v)) fits (rw (← long) l))
+      module _ (m : 6 + t .words ≤ 16384) where
+        fits : limited (joint-in u v) (length out) ≡ lent words (length out)
+        unfolding require _>>_
+        fits = rw (none-over .0, tests.le-leb (length words) 16384 (omega (arith, long)))
 
-      pub words-fit : {y : List ℕ} {i : ℕ} → 6 + t .words ≤ length out → Writes out 0 (sheet-words (joint-in u v)) y i
-          → Fits u v out (count i) y
-      words-fit l w = gives-words out (sheet-words (joint-in u v)) fits (omega (arith, long)) (omega (arith, long)) w
+        pub words-short : length out < 6 + t .words → Limits u v out (refusal 22 (6 + t .words)) out
+        words-short s = subst (λ (n : ℕ). Limits u v out (refusal 22 n) out) (sym long) (gives-short out words fits (rw (← long) s))
+
+        pub words-fit : {y : List ℕ} {n : ℕ} → 6 + t .words ≤ length out → Writes out 0 words y n → Limits u v out (count n) y
+        words-fit s w = gives-words out words fits (omega (arith, long)) (omega (arith, long)) w

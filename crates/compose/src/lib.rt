@@ -5,8 +5,7 @@ ghost use Rattle.model.specs.Answers.{refusal, said, said-refusal};
 ghost use Rattle.model.specs.Index.{Indexed};
 ghost use Rattle.model.specs.Calls.{swap-said, swap-out, join-said, join-out};
 ghost use Rattle.join_alike.specs.Alike.{Joinable};
-ghost use Rattle.compose.specs.Joins.{Within, Fits, Limits};
-use join_limits::Tally;
+ghost use Rattle.compose.specs.Joins.{Limits};
 use join_limits::tally_rules;
 use join_sheets::put_joint;
 use join_sheets::put_swapped;
@@ -45,29 +44,6 @@ pub fn swap(sheet: &[u32], out: &mut [u32]) -> Answer
     }
 }
 
-// The joint sheet of two sheets whose rules exceed no limit, by their tally: 21 at its place 6, or 22.
-fn join_within(
-    first: &[u32],
-    firsts: &[u32],
-    second: &[u32],
-    seconds: &[u32],
-    tally: Tally,
-    out: &mut [u32],
-) -> Answer
-    requires { ⌜ Within (now first) (now firsts) (now second) (now seconds) tally ⌝ }
-    ensures { λ r. ⌜ Fits (now (first .entry)) (now (second .entry)) (now (out .entry)) (said r) (now (out .exit)) ⌝ }
-{
-    let needed = HEAD_WORDS + tally.words;
-    if MOST_WORDS < needed {
-        return Answer::Error(Refusal::JointLimit(PLACE_WORDS));
-    }
-    if out.len() < needed {
-        return Answer::Error(Refusal::ShortBuffer(needed));
-    }
-    let rules = tally.rules as u32;
-    Answer::Count(put_joint(first, firsts, second, seconds, rules, out))
-}
-
 // The joint sheet of two sheets with few enough pairs of states: 21 from its place 2 on, or 22.
 fn join_few(
     first: &[u32],
@@ -83,7 +59,15 @@ fn join_few(
     if tally.place < PLACE_WORDS {
         return Answer::Error(Refusal::JointLimit(tally.place));
     }
-    join_within(first, firsts, second, seconds, tally, out)
+    let needed = HEAD_WORDS + tally.words;
+    if MOST_WORDS < needed {
+        return Answer::Error(Refusal::JointLimit(PLACE_WORDS));
+    }
+    if out.len() < needed {
+        return Answer::Error(Refusal::ShortBuffer(needed));
+    }
+    let rules = tally.rules as u32;
+    Answer::Count(put_joint(first, firsts, second, seconds, rules, out))
 }
 
 // The joint sheet of two sheets by their indexes: 21 or 22.
