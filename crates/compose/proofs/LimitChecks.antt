@@ -8,7 +8,7 @@ use lib.Dec.{leb}
 use lib.ListN.{length, getD}
 use borrow.Author.Tests as tests
 use Rattle.model.specs.Lists.{every}
-use Rattle.model.specs.Answers.{Said, count, refusal, Checked, refuses, require, _>>_}
+use Rattle.model.specs.Answers.{count, refusal, Checked, refuses, require, _>>_}
 use Rattle.model.specs.Sheet.{Rule, Sheet, set-words, sheet-words}
 use Rattle.model.specs.Compose.{positions-of, arcs-of, steps-of, joint, within-limits}
 use Rattle.model.specs.Index.{Indexed}

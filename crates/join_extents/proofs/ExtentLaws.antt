@@ -25,6 +25,7 @@ use Rattle.join_pairs.specs.declared.Sizes as numbers
 use Rattle.join_pairs.specs.Sides.{side-of, sizes-of, FewPairs}
 use Rattle.join_pairs.proofs.NumberLaws.{mul-le, few-S, few-T}
 use Rattle.join_count.specs.Counts.{SomeCount, LiftsCount}
+use Rattle.join_count.proofs.CountWords.{count-number}
 use Rattle.join_alike.specs.declared.Spot.{Spot}
 use Rattle.join_alike.specs.Spots.{rule-of, SpotOf, parts-of}
 use Rattle.join_alike.proofs.RuleParts.{order-here, count-here}
@@ -33,7 +34,7 @@ use Rattle.join_extents.specs.declared.OrderSize.{OrderSize}
 use Rattle.join_extents.specs.declared.CountSize.{CountSize}
 use Rattle.join_extents.specs.declared.Extent.{Extent}
 use Rattle.join_extents.specs.Extents.{RuleOf, order-size, count-size, lifted-size, SmallOrder, SmallCount, joint-order-size}
-use Rattle.join_extents.specs.Extents.{joint-count-size, extent-of, extent-in, Small, joint-extent, FewWords}
+use Rattle.join_extents.specs.Extents.{joint-count-size, extent-of, extent-in, Small, joint-extent}
 use Rattle.join_extents.specs.Extents.{fixed-words, words-of}
 
 -- ---- the joint parts
@@ -198,10 +199,6 @@ positions-word : {p a : ℕ} {s : List ℕ} {o : Order} → OrderAt p s a o → 
 unfolding order-words set-words
 positions-word h = word-here (h .there)
 
-steps-word : {p c : ℕ} {s : List ℕ} {ss : List Step} → CountAt p s c ss → getD s c 0 ≡ length ss
-unfolding count-words
-steps-word h = word-here (h .there)
-
 small-order : (p : ℕ) (x : Rule) → RuleInRange p 64 x → SmallOrder (order-size (parts-of x .order))
 small-order p (one k q) h = record { positions = omega arith; arcs = omega arith }
 small-order p (two g c q) h = record { positions = omega arith; arcs = omega arith }
@@ -252,7 +249,7 @@ module _ {side : code.Side} {n : numbers.Sizes} {s : List ℕ} {x : Spot} (h : R
     count-there {k} {l} ek (long, few) =
         let (ss, i) = is-there (parts-at s x .count) (sym e ∙ t) in
         let here = rw (h .states) at (count-here (h .spot) at i) in
-        let steps = ek ∙ steps-word here in
+        let steps = ek ∙ sym (count-number here) in
         let size = count-like (steps ∙ sym (length-map ss (lift-step (side-of side) (sizes-of n) 0))) (long ss here) in (
           size ∙ sym (lifted-some (side-of side) (sizes-of n) ss) ∙ ap (lifted-size (side-of side) (sizes-of n)) (sym i),
           record { steps = omega (arith, steps, here .ranges .few-steps); words = few },
@@ -280,7 +277,3 @@ products-small (x, y, few) = (
   mul-le _ _ (y .arcs) (few-S few),
   mul-le _ _ (x .arcs) (y .arcs),
 )
-
-pub joint-made : {o u : OrderSize} {c d : CountSize} → (o ≡ u) × (o .arcs ≤ 2 ^ 20) → (c ≡ d) × (c .words ≤ 2 ^ 20 - 8)
-    → let e : Extent = record { order = o; count = c } in (e ≡ record { order = u; count = d }) × FewWords e
-joint-made (eo, fo) (ec, fc) = (extent-like eo ec, record { arcs = fo; words = fc })

@@ -3,7 +3,7 @@ use mathlib.Core.Path.{_≡_}
 use mathlib.Core.Bool.{cond}
 use mathlib.Core.List.{List}
 use mathlib.Core.Option.{Option, none, some}
-use Prim.Native.Nat.{ℕ, _+_, _-_, _*_, _^_, _≤_}
+use Prim.Native.Nat.{ℕ, _+_, _*_, _^_, _≤_}
 use lib.Dec.{eqb, leb}
 use lib.ListN.{length, getD}
 use Rattle.model.specs.Sheet.{Order, Step, Rule, one, two, three, W, members, count-words}
@@ -82,11 +82,6 @@ pub record Small (e : Extent) : Type 0 where
 
 abbrev pub joint-extent : Sizes → Extent → Extent → Extent
 joint-extent n x y = record { order = joint-order-size n (x .order) (y .order); count = joint-count-size (x .count) (y .count) }
-
--- what is so of every joint rule, within its limits or not
-pub record FewWords (e : Extent) : Type 0 where
-  pub arcs : e .order .arcs ≤ 2 ^ 20
-  pub words : e .count .words ≤ 2 ^ 20 - 8
 
 -- the words of a rule that are in none of its parts
 abbrev pub fixed-words : Rule → ℕ

@@ -7,8 +7,7 @@ ghost use Rattle.join_pairs.specs.Sides.{side-of, sizes-of, FewPairs};
 ghost use Rattle.join_count.specs.Counts.{SomeCount, LiftsCount};
 ghost use Rattle.join_alike.specs.Spots.{rule-of, SpotOf, parts-of};
 ghost use Rattle.join_extents.specs.Extents.{coefficients-at, RuleOf, order-size, lifted-size, extent-of, fixed-words};
-ghost use Rattle.join_extents.specs.Extents.{joint-order-size, joint-count-size, joint-extent, SmallOrder, SmallCount, Small};
-ghost use Rattle.join_extents.specs.Extents.{FewWords, words-of};
+ghost use Rattle.join_extents.specs.Extents.{joint-order-size, joint-count-size, SmallOrder, SmallCount, Small, words-of};
 use join_alike::Spot;
 use join_alike::count_at;
 use join_alike::with_count;
@@ -123,7 +122,7 @@ pub fn extent_at(words: &[u32], x: Spot, side: Side, sizes: Sizes) -> Extent
 }
 
 // The size of the joint order part of two.
-fn joint_order(x: OrderSize, y: OrderSize, sizes: Sizes) -> OrderSize
+pub fn joint_order(x: OrderSize, y: OrderSize, sizes: Sizes) -> OrderSize
     requires { ⌜ SmallOrder x × SmallOrder y × FewPairs (sizes-of sizes) ⌝ }
     ensures is { λ r. ⌜ r ≡ joint-order-size (sizes-of sizes) x y ⌝ }
     ensures few { λ r. ⌜ r .arcs ≤ 2 ^ 20 ⌝ }
@@ -147,7 +146,7 @@ fn joint_order(x: OrderSize, y: OrderSize, sizes: Sizes) -> OrderSize
 }
 
 // The size of the joint count part of two.
-fn joint_count(x: CountSize, y: CountSize) -> CountSize
+pub fn joint_count(x: CountSize, y: CountSize) -> CountSize
     requires { ⌜ SmallCount x × SmallCount y ⌝ }
     ensures is { λ r. ⌜ r ≡ joint-count-size x y ⌝ }
     ensures few { λ r. ⌜ r .words ≤ 2 ^ 20 - 8 ⌝ }
@@ -165,22 +164,6 @@ fn joint_count(x: CountSize, y: CountSize) -> CountSize
     }
 }
 
-// The extent of the joint rule of two.
-pub fn joint_extent(x: Extent, y: Extent, sizes: Sizes) -> Extent
-    requires { ⌜ Small x × Small y × FewPairs (sizes-of sizes) ⌝ }
-    ensures is { λ r. ⌜ r ≡ joint-extent (sizes-of sizes) x y ⌝ }
-    ensures few { λ r. ⌜ FewWords r ⌝ }
-{
-    let o = x.order;
-    let u = y.order;
-    let c = x.count;
-    let d = y.count;
-    Extent {
-        order: joint_order(o, u, sizes),
-        count: joint_count(c, d),
-    }
-}
-
 // The number of a rule's words that are in none of its parts.
 pub fn fixed_words(words: &[u32], x: Spot) -> usize
     requires { ⌜ SpotOf (now words) x ⌝ }
@@ -194,14 +177,14 @@ pub fn fixed_words(words: &[u32], x: Spot) -> usize
     }
 }
 
-// The number of words of a rule by its extent; `fixed` of them are in none of its parts.
-pub fn words_of(fixed: usize, z: Extent) -> usize
-    requires { ⌜ (fixed ≤ 4) × FewWords z ⌝ }
-    ensures is { λ r. ⌜ r ≡ words-of fixed z ⌝ }
+// The number of words of a rule by the sizes of its parts; `fixed` of them are in none of these.
+pub fn words_of(fixed: usize, order: OrderSize, count: CountSize) -> usize
+    requires { ⌜ (fixed ≤ 4) × (order .arcs ≤ 2 ^ 20) × (count .words ≤ 2 ^ 20 - 8) ⌝ }
+    ensures is { λ r. ⌜ r ≡ words-of fixed (record { order = order; count = count }) ⌝ }
     ensures few { λ r. ⌜ r ≤ 2 ^ 21 ⌝ }
 {
-    if z.order.positions == 0 {
-        return fixed + z.count.words;
+    if order.positions == 0 {
+        return fixed + count.words;
     }
-    fixed + ORDER_HEAD + wide(z.order.arcs) + z.count.words
+    fixed + ORDER_HEAD + wide(order.arcs) + count.words
 }

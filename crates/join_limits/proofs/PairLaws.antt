@@ -21,6 +21,8 @@ use Rattle.join_alike.specs.declared.RulePair.{RulePair}
 use Rattle.join_alike.specs.Spots.{rule-of}
 use Rattle.join_alike.specs.Alike.{pairs-in, RowOf, Alike, pair-in}
 use Rattle.join_alike.proofs.AlikeLaws.{JointOf, texts, tags, contents, alike-paired, paired-rule}
+use Rattle.join_extents.specs.declared.OrderSize.{OrderSize}
+use Rattle.join_extents.specs.declared.CountSize.{CountSize}
 use Rattle.join_extents.specs.declared.Extent.{Extent}
 use Rattle.join_extents.specs.Extents.{RuleOf, extent-of, extent-in, joint-extent, fixed-words, words-of}
 use Rattle.join_extents.proofs.ExtentLaws.{joint-sized}
@@ -55,15 +57,15 @@ plain-tally {n} (texts k s t) l = let e : 0 * n .of-S ≡ 0 = omega arith in rw 
 plain-tally {n} (tags g c d s t) l = let e : 0 * n .of-S ≡ 0 = omega arith in rw e
 plain-tally (contents o u φ ψ s t) l = absurd (omega arith)
 
--- what the code makes of two extents
-pub tally-made : (fixed : ℕ) {l w : ℕ} {z e : Extent} → z ≡ e
-    → l ≡ first-of (leb (z .order .positions) 64) (leb (z .order .arcs) 1024) (leb (z .count .steps) 32)
-    → (w ≡ words-of fixed z) × (w ≤ 2 ^ 21)
-    → let t : Tally = record { rules = 1; place = l; words = w } in (t ≡ tally-by fixed e) × FewFor t
-tally-made fixed i el (ew, few) =
-    let place = el ∙ ap (λ (e : Extent). tally-by fixed e .place) i in
-    let words = ew ∙ ap (words-of fixed) i in
-    ((λ i. record { rules = 1; place = place i; words = words i }), record { few = omega arith })
+-- what the code makes of the sizes of two joint parts
+pub tally-made : (fixed : ℕ) {l w : ℕ} {o p : OrderSize} {c d : CountSize} → o ≡ p → c ≡ d
+    → l ≡ first-of (leb (o .positions) 64) (leb (o .arcs) 1024) (leb (c .steps) 32)
+    → (w ≡ words-of fixed (record { order = o; count = c })) × (w ≤ 2 ^ 21)
+    → let t : Tally = record { rules = 1; place = l; words = w } in (t ≡ tally-by fixed (record { order = p; count = d })) × FewFor t
+tally-made fixed {l} {w} eo ec el (ew, few) =
+    let small : FewFor (record { rules = 1; place = l; words = w }) = record { few = omega arith } in
+    let e : Extent → Tally = tally-by fixed in
+    ((λ i. record { rules = 1; place = el i; words = ew i }) ∙ (λ i. e (record { order = eo i; count = ec i })), small)
 
 pub fixed-few : (x : Rule) → fixed-words x ≤ 4
 fixed-few (one k q) = omega arith

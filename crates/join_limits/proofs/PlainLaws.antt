@@ -1,11 +1,11 @@
 -- The tally of the joint rules of a rule of S of a text or a tag: there is one for each rule of T with its key, and none has a part.
-use mathlib.Core.Path.{_≡_, refl, sym, ap}
+use mathlib.Core.Path.{_≡_, refl}
 use mathlib.Core.List.{List}
 use Prim.Native.Nat.{ℕ, _+_, _-_, _*_, _/_, _%_, _^_, _≤_, _<_}
 use native.Mathlib.Nat.{suc-mul}
 use native.Mathlib.Numerals.{add-one}
 use native.Mathlib.Omega.{arith}
-use lib.ListN.{length, getD}
+use lib.ListN.{getD}
 use Rattle.model.specs.Index.{key}
 use Rattle.join_alike.specs.declared.Spot.{Spot}
 use Rattle.join_alike.specs.declared.Row.{Row}
@@ -15,7 +15,7 @@ use Rattle.join_alike.proofs.AlikeLaws.{InRow, row-from, row-begun, row-alike, 
 use Rattle.join_extents.specs.Extents.{fixed-words}
 use Rattle.join_limits.specs.declared.Tally.{Tally}
 use Rattle.join_limits.specs.Limits.{TallyOf}
-use Rattle.join_limits.proofs.PairLaws.{plain-tallied, fixed-few}
+use Rattle.join_limits.proofs.PairLaws.{plain-tallied}
 use Rattle.join_limits.proofs.LimitLaws.{TallyLeft, tally-begun, tally-more, tally-done, row-counted}
 
 -- the spot of rule j, by an index

@@ -14,7 +14,8 @@ use join_alike::spot_of;
 use join_extents::Extent;
 use join_extents::extent_at;
 use join_extents::fixed_words;
-use join_extents::joint_extent;
+use join_extents::joint_count;
+use join_extents::joint_order;
 use join_extents::words_of;
 use join_pairs::Side;
 use join_pairs::Sizes;
@@ -43,11 +44,16 @@ fn tally_pair(x: Extent, y: Extent, fixed: usize, sizes: Sizes) -> Tally
     ensures is { λ r. ⌜ r ≡ tally-by fixed (joint-extent (sizes-of sizes) x y) ⌝ }
     ensures few { λ r. ⌜ FewFor r ⌝ }
 {
-    let z = joint_extent(x, y, sizes);
+    let o = x.order;
+    let u = y.order;
+    let c = x.count;
+    let d = y.count;
+    let order = joint_order(o, u, sizes);
+    let count = joint_count(c, d);
     Tally {
         rules: 1,
-        place: first_over(z.order.positions, z.order.arcs, z.count.steps),
-        words: words_of(fixed, z),
+        place: first_over(order.positions, order.arcs, count.steps),
+        words: words_of(fixed, order, count),
     }
 }
 

@@ -2,7 +2,6 @@
 use native.Mathlib.Omega.{arith}
 use borrow.Author.Tests as tests
 use Rattle.join_extents.proofs.ExtentLaws.{products-small}
-use borrow.Author.Needs.{needs}
 use Rattle.join_extents.proofs.joint_order.Statement.{statement}
 use Rattle.join_extents.proofs.joint_order.Tie as tie
 

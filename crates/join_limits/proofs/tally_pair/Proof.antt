@@ -8,9 +8,14 @@ pub tally-pair-spec : {M : Type 1} → statement M
 tally-pair-spec =
     tie.close
     (tie.spec
-    (λ c κs. let (x, y, few, _) = c .pre in (x, y, few))
+    (λ c κs. let (x, y, few, _) = c .before .before .before .before .pre in (x .order, y .order, few))
+    (λ c κs. let (x, y, _, _) = c .before .before .before .before .before .pre in (x .count, y .count))
     (λ c κs. search needs)
-    (λ c κs. (c .before .before .pre .3, c .before .joint-extent .ensures .1))
+    (λ c κs.
+    let made = c .before in
+    (made .before .before .before .before .before .before .pre .3, made .before .joint-order .ensures .1, made .joint-count .ensures .1))
     (λ c.
     let made = c .before .before in
-    tally-made (made .before .args .fixed) (made .joint-extent .ensures .0) (c .before .first-over .ensures) (c .words-of .ensures)))
+    let start = made .before .before .before .before .before .before in
+    tally-made (start .args .fixed) (made .before .joint-order .ensures .0) (made .joint-count .ensures .0) (c .before .first-over .ensures)
+    (c .words-of .ensures)))

@@ -1,5 +1,4 @@
 -- `tally_row` meets its contract.
-use mathlib.Core.Path.{_≡_}
 use native.Mathlib.Omega.{arith}
 use borrow.Author.Needs.{needs}
 use Rattle.join_limits.proofs.tally_row.Statement.{statement}
