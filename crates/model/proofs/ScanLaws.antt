@@ -7,7 +7,7 @@ use Prim.Native.Nat.{ℕ, suc, _+_, _≤_, _<_}
 use native.Mathlib.Omega.{arith}
 use lib.Dec.{eqb, leb}
 use lib.ListN.{length, getD, length-append}
-use borrow.Author.Tests.{le-leb, lt-leb, leb-false, ltb-false}
+use borrow.Author.Tests.{le-leb, lt-leb, leb-false}
 use Rattle.model.specs.Lists.{every}
 use Rattle.model.specs.Answers.{passes, refuses}
 use Rattle.model.specs.Tree.{Document, ε}
@@ -44,9 +44,6 @@ white-no-name : {w : List ℕ} → White w → (z : ℕ) (s r : List ℕ) → na
 unfolding name-at name-byte is class-number
 white-no-name no-white z s r h = rw h
 white-no-name (more-white e v) z s r h = rw e
-
-not-below : {m n : ℕ} → (m < n → ⊥) → n ≤ m
-not-below h = omega arith
 
 module _ (list : List ℕ) where
   -- the number that refuses an allowed byte that does m
@@ -240,7 +237,8 @@ module _ (list : List ℕ) where
       go : Told (leb 32 (length os)) → Stops (state p c os n) i (60 ∷ b ∷ (name ++ rest))
       go (yea deep) = refused 5 (to q) (leads .less-moves) (number ∙ rw (first, deep))
       go (nay shallow) =
-          let many : 4096 ≤ n = not-below (beyond (leb-false 32 (length os) shallow)) in
+          let none-left : n < 4096 → ⊥ = beyond (leb-false 32 (length os) shallow) in
+          let many : 4096 ≤ n = omega arith in
           refused 6 (to q) (leads .less-moves) (number ∙ rw (first, shallow, le-leb 4096 n many))
 
   -- a start tag; the tag of an empty element
