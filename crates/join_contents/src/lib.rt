@@ -6,7 +6,7 @@ ghost use Rattle.model.specs.Spans.{map-of};
 ghost use Rattle.page.specs.Page.{Writes};
 ghost use Rattle.join_alike.specs.Spots.{SpotOf};
 ghost use Rattle.join_alike.specs.Alike.{Alike, pair-in, FewPositions};
-ghost use Rattle.join_contents.specs.Parts.{target-in, map-in, order-in, count-in, pair-words};
+ghost use Rattle.join_contents.specs.Parts.{map-in, order-in, count-in, pair-words};
 use join_alike::RulePair;
 use join_alike::count_at;
 use join_alike::with_count;
@@ -24,16 +24,6 @@ use layout::COUNT_RULE;
 use layout::ORDER_COUNT_RULE;
 use layout::ORDER_RULE;
 use page::put;
-
-// The pair of the targets of two rules.
-fn joint_target(first: &[u32], second: &[u32], rules: RulePair, sizes: Sizes) -> u32
-    requires { ⌜ Alike (now first) (now second) sizes rules ⌝ }
-    ensures { λ r. ⌜ r ≡ target-in (now (first .entry)) (now (second .entry)) sizes rules ⌝ }
-{
-    let s = parts::at(first, rules.s.target);
-    let t = parts::at(second, rules.t.target);
-    pair(sizes.t, s, t)
-}
 
 // The map of a content rule.
 fn content_map(ordered: bool, counted: bool) -> u32
@@ -143,5 +133,7 @@ pub fn put_contents(
     let mapped = put(out, at, joint_map(first, second, rules));
     let ruled = put_order(first, second, rules, sizes, out, mapped);
     let summed = put_count(first, second, rules, sizes, out, ruled);
-    put(out, summed, joint_target(first, second, rules, sizes))
+    let s = parts::at(first, rules.s.target);
+    let t = parts::at(second, rules.t.target);
+    put(out, summed, pair(sizes.t, s, t))
 }
