@@ -9,6 +9,8 @@ ROOT = Path(__file__).resolve().parent.parent
 FUNCTION = re.compile(r'^([ \t]*)(pub(?:\(\w+\))?\s+)?(?:(?:const|unsafe|extern\s+"C")\s+)*fn\s+(\w+)', re.M)
 CLAUSE_OR_BODY = re.compile(r"\b(requires|ensures)\b|[{;]")
 INTERNAL = re.compile(r"# Internal to (\w+)")
+COMMENT = {".rt": re.compile(r"//[^\n]*"), ".antt": re.compile(r"--[^\n]*")}
+PROOFS = re.compile(r"\bproofs\b")
 
 
 class Crate(NamedTuple):
@@ -48,10 +50,21 @@ def files(crate, part, ending):
     return sorted((ROOT / "crates" / crate / part).rglob(f"*.{ending}"))
 
 
+def without_comments(file):
+    """The text of a file of code, specs or proofs, with spaces in place of comments."""
+    return COMMENT[file.suffix].sub(lambda comment: " " * len(comment[0]), file.read_text(encoding="utf-8"))
+
+
+def lines_from_proofs(file):
+    """The numbers of the lines of a file that name a module of proofs, as an import from one does."""
+    lines = without_comments(file).splitlines()
+    return [number for number, line in enumerate(lines, 1) if PROOFS.search(line)]
+
+
 def functions(file):
     """The functions of a file of code."""
     text = file.read_text(encoding="utf-8")
-    code = re.sub(r"//[^\n]*", lambda comment: " " * len(comment[0]), text)
+    code = without_comments(file)
     for match in FUNCTION.finditer(code):
         indent, visible, name = match.groups()
         start = code.index("(", match.end())

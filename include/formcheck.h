@@ -12,8 +12,10 @@
  *   FORMCHECK_STUCK        a node              looks
  *   FORMCHECK_ERROR        the number          the place of the refusal, as document 01 gives them
  *
- * A refusal leaves lent buffers as they are, but for 23, which zeroes the first n state words. Where a call succeeds, what stands
- * past its answer keeps its contents. Each of these sentences is part of the call's proved promise (crates/capi/src/lib.rt).
+ * The array of the answer is written whether the call refuses or not; what it has past the three words keeps its contents. The other
+ * lent arrays are left as they are by a refusal, but for 23, which zeroes the first n state words; where a call succeeds, what they have
+ * past the words or bytes that it writes keeps its contents. Each of these sentences is part of the call's proved promise
+ * (crates/capi/src/lib.rt).
  *
  * The promise holds where the caller keeps C's side of it: a pointer is not null, also where the number of elements is 0; it is
  * aligned for its type and has as many elements as is said; and no array that a call writes overlaps another of that call. A call
