@@ -8,6 +8,7 @@ ROOT = Path(__file__).resolve().parent.parent
 
 FUNCTION = re.compile(r'^([ \t]*)(pub(?:\(\w+\))?\s+)?(?:(?:const|unsafe|extern\s+"C")\s+)*fn\s+(\w+)', re.M)
 CLAUSE_OR_BODY = re.compile(r"\b(requires|ensures)\b|[{;]")
+ARRAY_RESULT = re.compile(r"\)\s*->\s*(?=\[)")
 INTERNAL = re.compile(r"# Internal to (\w+)")
 COMMENT = {".rt": re.compile(r"//[^\n]*"), ".antt": re.compile(r"--[^\n]*")}
 PROOFS = re.compile(r"\bproofs\b")
@@ -76,7 +77,9 @@ def functions(file):
 
 
 def contracts_from(text, code, place):
-    """The clauses that stand between a function's parameters and its body; each with its whole lines."""
+    """The clauses that stand between a function's parameters, which end at a place, and its body; each with its whole lines."""
+    if array := ARRAY_RESULT.match(code, place):
+        place = closing(code, array.end())
     while (match := CLAUSE_OR_BODY.search(code, place)) and match[1]:
         place = closing(code, code.index("{", match.end()))
         start = text.rindex("\n", 0, match.start()) + 1
