@@ -118,17 +118,6 @@ content-long p o φ q h =
 
 -- ---- joint parts
 
-lifted-some : (side : Side) (n : Sizes) (ss : List Step)
-    → lifted-size side n (some ss) ≡ count-size (of-pairs n) (some (map (lift-step side n 0) ss))
-unfolding joint-count
-lifted-some S n ss = refl
-lifted-some T n ss = refl
-
-lifted-none : (side : Side) (n : Sizes) → lifted-size side n none ≡ count-size (of-pairs n) none
-unfolding joint-count
-lifted-none S n = refl
-lifted-none T n = refl
-
 module _ (n : Sizes) (p q : ℕ) where
   joint-orders : (o u : Option Order) → IfAny (OrderInRange p) o → IfAny (OrderInRange q) u
       → order-size (joint-order n o u) ≡ joint-order-size n (order-size o) (order-size u)
@@ -251,14 +240,14 @@ module _ {side : code.Side} {n : numbers.Sizes} {s : List ℕ} {x : Spot} (h : R
         let here = rw (h .states) at (count-here (h .spot) at i) in
         let steps = ek ∙ sym (count-number here) in
         let size = count-like (steps ∙ sym (length-map ss (lift-step (side-of side) (sizes-of n) 0))) (long ss here) in (
-          size ∙ sym (lifted-some (side-of side) (sizes-of n) ss) ∙ ap (lifted-size (side-of side) (sizes-of n)) (sym i),
+          size ∙ ap (lifted-size (side-of side) (sizes-of n)) (sym i),
           record { steps = omega (arith, steps, here .ranges .few-steps); words = few },
         )
 
   pub count-none : r ≡ false → (count 0 0 ≡ lifted-size (side-of side) (sizes-of n) (parts-at s x .count)) × SmallCount (count 0 0)
   count-none t =
       let none = not-there (parts-at s x .count) (sym e ∙ t) in (
-        sym (lifted-none (side-of side) (sizes-of n)) ∙ ap (lifted-size (side-of side) (sizes-of n)) (sym none),
+        ap (lifted-size (side-of side) (sizes-of n)) (sym none),
         record { steps = omega arith; words = omega arith },
       )
 

@@ -1,13 +1,13 @@
 -- How large a rule of one of the two sheets is, and the joint rule of two.
 use mathlib.Core.Path.{_≡_}
 use mathlib.Core.Bool.{cond}
-use mathlib.Core.List.{List}
+use mathlib.Core.List.{List, map}
 use mathlib.Core.Option.{Option, none, some}
 use Prim.Native.Nat.{ℕ, _+_, _*_, _^_, _≤_}
 use lib.Dec.{eqb, leb}
 use lib.ListN.{length, getD}
 use Rattle.model.specs.Sheet.{Order, Step, Rule, one, two, three, W, members, count-words}
-use Rattle.model.specs.Compose.{Side, S, T, Sizes, of-side, of-pairs, joint-count}
+use Rattle.model.specs.Compose.{Side, Sizes, of-side, of-pairs, lift-step}
 use Rattle.model.specs.Index.{sheet-in}
 use Rattle.join_pairs.specs.declared.Side as code
 use Rattle.join_pairs.specs.declared.Sizes as numbers
@@ -41,8 +41,8 @@ count-size p (some ss) = record { steps = length ss; words = length (count-words
 
 -- a count part that meets none in the other sheet is lifted
 abbrev pub lifted-size : Side → Sizes → Option (List Step) → CountSize
-lifted-size S n φ = count-size (of-pairs n) (joint-count n φ none)
-lifted-size T n φ = count-size (of-pairs n) (joint-count n none φ)
+lifted-size side n none = record { steps = 0; words = 0 }
+lifted-size side n (some ss) = count-size (of-pairs n) (some (map (lift-step side n 0) ss))
 
 -- the limits of a sheet's rule
 pub record SmallOrder (o : OrderSize) : Type 0 where

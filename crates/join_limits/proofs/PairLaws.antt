@@ -11,7 +11,7 @@ use Rattle.model.specs.Lists.{every}
 use Rattle.model.specs.Sheet.{Rule, one, two, three, rule-words}
 use Rattle.model.specs.Index.{sheet-in}
 use Rattle.model.specs.Compose as model
-use Rattle.model.specs.Compose.{S, T, of-pairs, joint-count, positions-of, arcs-of, steps-of}
+use Rattle.model.specs.Compose.{S, T, of-pairs, positions-of, arcs-of, steps-of}
 use Rattle.limits.specs.Limits.{first-of}
 use Rattle.join_pairs.specs.declared.Sizes.{Sizes}
 use Rattle.join_pairs.specs.declared.Side.the-variants as code
@@ -52,7 +52,6 @@ one-long p z = omega (arith, length-append (rule-words p z) [])
 -- rules of texts and of tags have no parts
 plain-tally : {n : model.Sizes} {x y z : Rule} → JointOf n x y z → 2 < fixed-words x
     → tally-by (fixed-words x) (joint-extent n (extent-of S n x) (extent-of T n y)) ≡ record { rules = 1; place = 6; words = fixed-words x }
-unfolding joint-count
 plain-tally {n} (texts k s t) l = let e : 0 * n .of-S ≡ 0 = omega arith in rw e
 plain-tally {n} (tags g c d s t) l = let e : 0 * n .of-S ≡ 0 = omega arith in rw e
 plain-tally (contents o u φ ψ s t) l = absurd (omega arith)
