@@ -10,19 +10,20 @@ use Rattle.model.specs.declared.Answer.{Answer}
 use Rattle.model.specs.declared.Answer.the-variants.{Count}
 use Rattle.model.specs.declared.Judgement.{Judgement}
 use Rattle.model.specs.Lists.{_∈_}
-use Rattle.model.specs.Answers.{passes, said-judgement, looks-in}
+use Rattle.model.specs.Answers.{passes, _>>=_, _>>_, said-judgement, looks-in}
 use Rattle.model.specs.Tree.{Element, size, tree-of}
-use Rattle.model.specs.Sheet.{Sheet, sheet-of}
+use Rattle.model.specs.Sheet.{Sheet, sheet-of, sheet-words}
 use Rattle.model.specs.Compose.{pair, swapped, joint}
-use Rattle.model.specs.Calls.{swap, join}
-use Rattle.model.proofs.Answered.{Promised, front-left}
-use Rattle.model.proofs.Demand3.{Reading, Sheet-on, TakesTo, AcceptsIt, NoTwo, join-passes, swap-passes, joint-looks, joint-gives-no-two}
+use Rattle.model.specs.Calls.{swap, joined, join}
+use Rattle.model.specs.Demands.{Promised, JudgePromised, Reading, Sheet-on, TakesTo, AcceptsIt, NoTwo}
+use Rattle.model.proofs.Answered.{counts, front-left}
+use Rattle.model.proofs.RoundTrip.{room-passes}
+use Rattle.model.proofs.Demand3.{join-passes, swap-passes, joint-looks, joint-gives-no-two}
 use Rattle.model.proofs.Demand3.{joint-takes-pair, joint-accepts-both, swapped-accepts-rest}
-use Rattle.judge.proofs.Claims as judge
 
 module _ {tree : List ℕ} {e : Element} where
   -- a sheet's words beside a tree, with the answer of `judge` as the verdict
-  pub judged-on : {words states left : List ℕ} {sheet : Sheet} {answer : Judgement} → judge.Promised words tree states answer left
+  pub judged-on : {words states left : List ℕ} {sheet : Sheet} {answer : Judgement} → JudgePromised words tree states answer left
       → sheet-of words ≡ passes sheet → tree-of (sheet .tags) tree ≡ passes e → size e ≤ length states → Sheet-on tree e
   judged-on {words} {states} {left} {sheet} {answer} promise passed over room = record {
     words = words;
@@ -38,11 +39,11 @@ module _ {tree : List ℕ} {e : Element} where
   -- `join`, lent S, T and a buffer, counts n words; `judge`, lent the first n words of what it leaves, the tree and room for the states,
   -- gives an answer.
   module _ (S T : Sheet-on tree e) {out left : List ℕ} {r : Answer} {n : ℕ}
-      (joined : Promised (join (S .words) (T .words) (length out)) out r left) (counted : r ≡ Count n)
-      {states after : List ℕ} {answer : Judgement} (judged : judge.Promised (take n left) tree states answer after)
+      (promised : Promised (join (S .words) (T .words) (length out)) out r left) (counted : r ≡ Count n)
+      {states after : List ℕ} {answer : Judgement} (judged : JudgePromised (take n left) tree states answer after)
       (room : size e ≤ length states) where
     joins : join (S .words) (T .words) (length out) ≡ passes (take n left)
-    joins = front-left joined counted
+    joins = front-left promised counted
 
     -- The words pass the sheet check, and are read as the joint sheet: J is that, with the answer as its verdict.
     pub passed : sheet-of (take n left) ≡ passes (joint (S .sheet) (T .sheet))
@@ -64,8 +65,8 @@ module _ {tree : List ℕ} {e : Element} where
       unfolding J judged-on
       gives-no-two = joint-gives-no-two S T J (length out) joins a b S-one T-one
 
-      -- It takes the form to the pair (q, r) exactly when S takes it to q and T to r.
-      pub takes-pair : (u v w : Reading) (q r : ℕ) → r < T .sheet .states → TakesTo w J (pair (T .sheet .states) q r) ↔
+      -- It takes the form to the pair (q, r), r being a state of T, exactly when S takes it to q and T to r.
+      pub takes-pair : (u v w : Reading) (q r : ℕ) → ((r < T .sheet .states) × TakesTo w J (pair (T .sheet .states) q r)) ↔
           (TakesTo u S q × TakesTo v T r)
       unfolding J judged-on
       takes-pair = joint-takes-pair S T J (length out) joins a b S-one T-one
@@ -78,7 +79,7 @@ module _ {tree : List ℕ} {e : Element} where
   -- `swap`, lent S and a buffer, counts n words; `judge`, lent the first n words of what it leaves, gives an answer.
   module _ (S : Sheet-on tree e) {out left : List ℕ} {r : Answer} {n : ℕ} (turned : Promised (swap (S .words) (length out)) out r left)
       (counted : r ≡ Count n)
-      {states after : List ℕ} {answer : Judgement} (judged : judge.Promised (take n left) tree states answer after)
+      {states after : List ℕ} {answer : Judgement} (judged : JudgePromised (take n left) tree states answer after)
       (room : size e ≤ length states) where
     swaps : swap (S .words) (length out) ≡ passes (take n left)
     swaps = front-left turned counted
@@ -92,3 +93,24 @@ module _ {tree : List ℕ} {e : Element} where
     pub accepts-rest : (u w : Reading) → AcceptsIt w W ↔ ((q : ℕ) × TakesTo u S q × (q ∈ S .sheet .final → ⊥))
     unfolding W judged-on
     accepts-rest = swapped-accepts-rest S W (length out) swaps
+
+-- ---- what isn't refused is written
+
+-- Sheets that 9, 20 and 21 don't refuse, with room for the words of their joint sheet, are joined: the answer counts these words.
+pub joins-count : (first second : List ℕ) {out left : List ℕ} {r : Answer} {j : Sheet}
+    → Promised (join first second (length out)) out r left → joined first second ≡ passes j → length (sheet-words j) ≤ length out
+    → r ≡ Count (length (sheet-words j))
+unfolding join _>>=_ _>>_
+joins-count first second {out} {r = r} {j} promise within room =
+    let fits = room-passes (length (sheet-words j)) (length out) room in
+    let writes : join first second (length out) ≡ passes (sheet-words j) = rw (within, fits) in
+    counts length (join first second (length out)) r (promise .answer) writes
+
+-- A sheet that 9 doesn't refuse, with room, is swapped: the answer counts its words.
+pub swaps-count : (words : List ℕ) {out left : List ℕ} {r : Answer} {s : Sheet} → Promised (swap words (length out)) out r left
+    → sheet-of words ≡ passes s → length (sheet-words (swapped s)) ≤ length out → r ≡ Count (length (sheet-words (swapped s)))
+unfolding swap _>>=_ _>>_
+swaps-count words {out} {r = r} {s} promise passes-check room =
+    let fits = room-passes (length (sheet-words (swapped s))) (length out) room in
+    let writes : swap words (length out) ≡ passes (sheet-words (swapped s)) = rw (passes-check, fits) in
+    counts length (swap words (length out)) r (promise .answer) writes

@@ -5,7 +5,7 @@ use lib.ListN.{length}
 use denote.Ref.{now}
 use Rattle.model.specs.declared.Answer.{Answer}
 use Rattle.model.specs.Calls.{swap, swap-said, swap-out, join, join-said, join-out}
-use Rattle.model.proofs.Answered.{Promised}
+use Rattle.model.specs.Demands.{Promised}
 use Rattle.compose.proofs.swap.Reads as of-swap
 use Rattle.compose.proofs.join.Reads as of-join
 

@@ -3,8 +3,8 @@
 use mathlib.Core.Path.{_≡_}
 use mathlib.Core.Logic.{_↔_}
 use mathlib.Core.List.{List}
-use Prim.Native.Nat.{ℕ, _*_, _/_, _≤_}
-use lib.ListN.{length, getD, take, drop, replicate}
+use Prim.Native.Nat.{ℕ, _*_, _≤_}
+use lib.ListN.{length, take, drop, replicate}
 use denote.Ref.{now}
 use Rattle.model.specs.declared.Judgement.{Judgement}
 use Rattle.model.specs.Lists.{_∈_}
@@ -12,24 +12,18 @@ use Rattle.model.specs.Answers.{accepted, stuck, refusal, passes, said-judgemen
 use Rattle.model.specs.Tree.{Element, nodes, size, tree-of}
 use Rattle.model.specs.Sheet.{Sheet, sheet-of}
 use Rattle.model.specs.Relation.{AtMostOne, ReachesTwo, Single, GivesTwo, Takes, NoState, SomeState, StatesOf, Highest}
-use Rattle.model.specs.Calls.{judge-said, judge-states}
-use Rattle.model.proofs.Demand2.{Names, verdict-names, verdict-accepts, verdict-two, verdict-two-at, verdict-stuck, verdict-stuck-at}
+use Rattle.model.specs.Demands.{JudgePromised, Names}
+use Rattle.model.proofs.Demand2.{verdict-names, verdict-accepts, verdict-two, verdict-two-at, verdict-stuck, verdict-stuck-at}
 use Rattle.model.proofs.Demand2.{states-say, states-zeroed, states-past, looks-bound}
 use Rattle.judge.proofs.judge.Reads as reads
 
--- What `judge` promises of its answer r and of the states that it leaves: its three `ensures`, on the words that it is lent.
-pub record Promised (sheet tree states : List ℕ) (r : Judgement) (left : List ℕ) : Type 0 where
-  pub answer : said-judgement r ≡ judge-said sheet tree states
-  pub buffer : left ≡ judge-states sheet tree states
-  pub bound : looks-in (said-judgement r) ≤ 2 * (length tree / 4) * getD sheet 5 0
-
--- The promise that is proved of the code gives this one: `reads.Post` is how the `ensures` of `judge` read, of lifetimes κs, arguments
--- a, answer r, and x, what the arguments hold at the end.
-pub promised : (κs : _) (a : _) (r : Judgement) (x : _) → reads.Post κs a r x → Promised (now (a .0)) (now (a .1 .0)) (now (a .1 .1 .0)) r
-    (now (x .1 .1 .0))
+-- The promise that is proved of the code gives `JudgePromised`, its three `ensures` on the words that it is lent: `reads.Post` is how the
+-- `ensures` of `judge` read, of lifetimes κs, arguments a, answer r, and x, what the arguments hold at the end.
+pub promised : (κs : _) (a : _) (r : Judgement) (x : _) → reads.Post κs a r x
+    → JudgePromised (now (a .0)) (now (a .1 .0)) (now (a .1 .1 .0)) r (now (x .1 .1 .0))
 promised κs a r x (answer, (buffer, bound)) = record { answer = answer; buffer = buffer; bound = bound }
 
-module _ {sheet tree states left : List ℕ} {r : Judgement} (promise : Promised sheet tree states r left) {s : Sheet} {e : Element}
+module _ {sheet tree states left : List ℕ} {r : Judgement} (promise : JudgePromised sheet tree states r left) {s : Sheet} {e : Element}
     (sheet-ok : sheet-of sheet ≡ passes s) (tree-ok : tree-of (s .tags) tree ≡ passes e) (room : size e ≤ length states) where
   -- The answer names a state exactly when the transition relation takes the form's root to it and no node reaches two.
   pub names : (q : ℕ) → Names (said-judgement r) q ↔ Takes s e q

@@ -17,6 +17,7 @@ use Rattle.model.specs.declared.Refusal.the-variants as refusals
 use Rattle.model.specs.declared.Refusal.the-variants.{LongText, ForbiddenByte, Syntax, UnknownName, OtherName, Depth, ManyNodes}
 use Rattle.model.specs.declared.Refusal.the-variants.{NameList, Tree, TextWords, TagCounts, JointLimit, ShortBuffer, TwoStates}
 use Rattle.model.specs.declared.Refusal.the-variants.{LongForm}
+use Rattle.model.specs.Demands.{Promised}
 use Rattle.model.proofs.SheetCode.{sheet-refuses}
 use Rattle.model.proofs.TreeLaws.{length-wordsD, tree-refuses}
 
@@ -64,10 +65,11 @@ refused f c {x = x} h e =
     let (m, i, s) = refusal-says x in
     (m, i, refusal-said f c (sym s ∙ sym (ap said e) ∙ h), s)
 
--- What a call promises that writes words and counts them: its answer r, and what it leaves of a lent buffer. c is the model's call.
-pub record Promised (c : Checked (List ℕ)) (out : List ℕ) (r : Answer) (left : List ℕ) : Type 0 where
-  pub answer : said r ≡ answer-of length c
-  pub buffer : left ≡ buffer-after out c
+-- a call that passes counts what it passed
+pub counts : {A : Type 0} (f : A → ℕ) (c : Checked A) {a : A} (r : Answer) → said r ≡ answer-of f c → c ≡ passes a → r ≡ Count (f a)
+unfolding answer-of said
+counts f c {a} (Count n) h p = let same : n ≡ f a = cc in ap Count same
+counts f c (Error x) h p = let (m, i, says) = refusal-says x in let z : _≡_ {A = ℕ} 0 1 = cc in absurd (omega arith)
 
 module _ {c : Checked (List ℕ)} {out left : List ℕ} {r : Answer} (promise : Promised c out r left) where
   -- where n words are counted, the first n words left are those of the model's call …

@@ -16,6 +16,7 @@ use Rattle.model.specs.Sheet.{Sheet, sheet-of, InRange}
 use Rattle.model.specs.Relation.{AtMostOne, ReachesTwo, Single, GivesTwo, Takes, NoState, SomeState, StatesOf, Highest}
 use Rattle.model.specs.Run.{Ran, ran, two-at, items, run, root-verdict, verdict}
 use Rattle.model.specs.Calls.{judge, verdict-of, judge-said, first-states, states-after, judge-states}
+use Rattle.model.specs.Demands.{Names}
 use Rattle.model.proofs.Tests.{Told, yea, nay, told}
 use Rattle.model.proofs.ListLaws.{∈-has, has-∈}
 use Rattle.model.proofs.SheetCode.{sheet-passes}
@@ -23,10 +24,6 @@ use Rattle.model.proofs.TreeLaws.{length-nodes, tree-passes}
 use Rattle.model.proofs.Outcome.{root-∈}
 use Rattle.model.proofs.Places.{length-states, root-word, root-has-word, root-stuck, highest-∈, highest-unique}
 use Rattle.model.proofs.RunLaws.{over-formed, RunSays, run-says}
-
--- the verdict names a state
-abbrev pub Names : Said → ℕ → Type 0
-Names x q = (m : ℕ) × ((x ≡ accepted q m) ⊎ (x ≡ refused q m))
 
 -- ---- what each verdict means
 

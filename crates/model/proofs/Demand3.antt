@@ -14,46 +14,19 @@ use Rattle.model.specs.Sheet.{Sheet, sheet-of, sheet-words, InRange}
 use Rattle.model.specs.Relation.{Single, GivesTwo, Takes, Accepts}
 use Rattle.model.specs.Compose.{pair, swapped, joint, within-limits}
 use Rattle.model.specs.Calls.{judge-said, swap, in-second, joined, join}
+use Rattle.model.specs.Demands.{Names, Reading, by-rules, by-run, Sheet-on, TakesTo, AcceptsIt, NoTwo}
 use Rattle.model.proofs.Tests.{Told, yea, nay, told, same, eqb-no}
 use Rattle.model.proofs.CheckLaws.{refuses≢passes, passes-inj, bind-inv, then-inv, required}
 use Rattle.model.proofs.SheetCode.{sheet-passes}
+use Rattle.model.proofs.RuleTargets.{to-below}
 use Rattle.model.proofs.Product.{joint-single, joint-takes, joint-accepts}
 use Rattle.model.proofs.JoinRange.{joint-in-range, joint-rule-count}
 use Rattle.model.proofs.SwapLaws.{swapped-in-range, swapped-accepts}
-use Rattle.model.proofs.Demand2.{Names, verdict-names, verdict-accepts, verdict-two, looks-bound}
+use Rattle.model.proofs.Demand2.{verdict-names, verdict-accepts, verdict-two, looks-bound}
 
--- ---- how "takes" and "accepts" are read
-
--- by the rules, or off the verdict that a run by the sheet returns
-pub data Reading : Type 0 where
-  by-rules by-run : Reading
-
--- a sheet's words, which pass, beside a tree over its tags, and the verdict that a run returns, with room for the states
-pub record Sheet-on (tree : List ℕ) (e : Element) : Type 0 where
-  pub words : List ℕ
-  pub sheet : Sheet
-  pub states : List ℕ
-  pub verdict : Said
-  pub passed : sheet-of words ≡ passes sheet
-  pub over : tree-of (sheet .tags) tree ≡ passes e
-  pub room : size e ≤ length states
-  pub returned : verdict ≡ judge-said words tree states
+-- ---- the two readings are one
 
 module _ {tree : List ℕ} {e : Element} where
-  abbrev pub TakesTo : Reading → Sheet-on tree e → ℕ → Type 0
-  TakesTo by-rules S q = Takes (S .sheet) e q
-  TakesTo by-run S q = Names (S .verdict) q
-
-  abbrev pub AcceptsIt : Reading → Sheet-on tree e → Type 0
-  AcceptsIt by-rules S = Accepts (S .sheet) e
-  AcceptsIt by-run S = (q m : ℕ) × (S .verdict ≡ accepted q m)
-
-  abbrev pub NoTwo : Reading → Sheet-on tree e → Type 0
-  NoTwo by-rules S = GivesTwo (S .sheet) e → ⊥
-  NoTwo by-run S = (i : ℕ) → S .verdict ≡ refusal 23 i → ⊥
-
-  -- ---- the two readings are one
-
   takes-read : (u : Reading) (S : Sheet-on tree e) (q : ℕ) → TakesTo u S q ↔ Takes (S .sheet) e q
   takes-read by-rules S q = (λ t. t, λ t. t)
   takes-read by-run S q = rw (S .returned) (verdict-names (S .words) tree (S .states) (S .passed) (S .over) (S .room) q)
@@ -173,22 +146,28 @@ module _ {tree : List ℕ} {e : Element} (S T J : Sheet-on tree e) (room : ℕ)
         (subst (λ (j : Sheet). Single (j .rules) (nodes e)) (sym joint-is)
         (joint-single (S .sheet) (T .sheet) S-range T-range e S-single T-single)))
 
-    -- It takes the form to the pair (q, r) exactly when S takes it to q and T to r.
-    pub joint-takes-pair : (u v w : Reading) (q r : ℕ) → r < T .sheet .states → TakesTo w J (pair (T .sheet .states) q r) ↔
+    -- It takes the form to the pair (q, r), r being a state of T, exactly when S takes it to q and T to r.
+    pub joint-takes-pair : (u v w : Reading) (q r : ℕ) → ((r < T .sheet .states) × TakesTo w J (pair (T .sheet .states) q r)) ↔
         (TakesTo u S q × TakesTo v T r)
-    joint-takes-pair u v w q r h = (there, back)
+    joint-takes-pair u v w q r = (there, back)
       where
-        product : Takes (joint (S .sheet) (T .sheet)) e (pair (T .sheet .states) q r) ↔ (Takes (S .sheet) e q × Takes (T .sheet) e r)
-        product = joint-takes (S .sheet) (T .sheet) S-range T-range e S-single T-single q r h
+        product : r < T .sheet .states → Takes (joint (S .sheet) (T .sheet)) e (pair (T .sheet .states) q r) ↔
+            (Takes (S .sheet) e q × Takes (T .sheet) e r)
+        product h = joint-takes (S .sheet) (T .sheet) S-range T-range e S-single T-single q r h
 
-        there : TakesTo w J (pair (T .sheet .states) q r) → TakesTo u S q × TakesTo v T r
-        there t =
-            let (x, y) = product .0 (subst (λ (j : Sheet). Takes j e (pair (T .sheet .states) q r)) joint-is (takes-read w J _ .0 t)) in
+        there : (r < T .sheet .states) × TakesTo w J (pair (T .sheet .states) q r) → TakesTo u S q × TakesTo v T r
+        there (h, t) =
+            let (x, y) = product h .0 (subst (λ (j : Sheet). Takes j e (pair (T .sheet .states) q r)) joint-is (takes-read w J _ .0 t)) in
             (takes-read u S q .1 x, takes-read v T r .1 y)
 
-        back : TakesTo u S q × TakesTo v T r → TakesTo w J (pair (T .sheet .states) q r)
-        back t = takes-read w J _ .1 (subst (λ (j : Sheet). Takes j e (pair (T .sheet .states) q r)) (sym joint-is)
-            (product .1 (takes-read u S q .0 (t .0), takes-read v T r .0 (t .1))))
+        back : TakesTo u S q × TakesTo v T r → (r < T .sheet .states) × TakesTo w J (pair (T .sheet .states) q r)
+        back t =
+            let taken = takes-read v T r .0 (t .1) in
+            let h = to-below (T .sheet) T-range e r (taken .1) in (
+              h,
+              takes-read w J _ .1 (subst (λ (j : Sheet). Takes j e (pair (T .sheet .states) q r)) (sym joint-is)
+                  (product h .1 (takes-read u S q .0 (t .0), taken))),
+            )
 
     -- It accepts exactly when both accept.
     pub joint-accepts-both : (u v w : Reading) → AcceptsIt w J ↔ (AcceptsIt u S × AcceptsIt v T)

@@ -15,20 +15,15 @@ use Rattle.model.specs.Names.{names-of}
 use Rattle.model.specs.Text.{form-of}
 use Rattle.model.specs.Relation.{AtMostOne, ReachesTwo, Single, GivesTwo, Takes, Accepts, NoState, SomeState, Highest}
 use Rattle.model.specs.Calls.{Judged, judge, judge-said, verdict-of, formcheck}
+use Rattle.model.specs.Demands.{Names, Presents}
 use Rattle.model.proofs.Tests.{same, eqb-yes}
 use Rattle.model.proofs.CheckLaws.{bind-inv, required}
 use Rattle.model.proofs.TreeLaws.{tree-passes}
 use Rattle.model.proofs.NameLaws.{few-names}
 use Rattle.model.proofs.ReadGood.{read-good}
 use Rattle.model.proofs.RoundTrip.{one-words, room-passes}
-use Rattle.model.proofs.Demand2.{Names, verdict-names, verdict-accepts, verdict-two, verdict-two-at, verdict-stuck, verdict-stuck-at}
+use Rattle.model.proofs.Demand2.{verdict-names, verdict-accepts, verdict-two, verdict-two-at, verdict-stuck, verdict-stuck-at}
 use Rattle.model.proofs.Demand2.{looks-bound}
-
--- The three inputs present a sheet and a form: no check before the run refuses them.
-pub record Presents (list file s : List ℕ) (t : Sheet) (e : Element) : Type 0 where
-  pub names : names-of list ≡ passes (t .tags)
-  pub sheet : sheet-of (file-words file) ≡ passes t
-  pub form : form-of list s ≡ passes (e · ε)
 
 module _ {list file s : List ℕ} {t : Sheet} {e : Element} (p : Presents list file s t e) where
   -- The form's words keep the rules of a tree over the sheet's tags.

@@ -13,11 +13,11 @@ use Rattle.model.specs.Names.{names-of}
 use Rattle.model.specs.Text.{form-of}
 use Rattle.model.specs.Grammar.{list-bytes, NameList, GoodForm}
 use Rattle.model.specs.Calls.{read}
+use Rattle.model.specs.Demands.{Presents}
 use Rattle.model.proofs.CheckLaws.{passes-inj, bind-inv, then-inv, require-is}
 use Rattle.model.proofs.SheetCode.{sheet-passes}
 use Rattle.model.proofs.NameList.{names-checked, names-pass}
 use Rattle.model.proofs.RoundTrip.{one-size, room-passes}
-use Rattle.model.proofs.Formcheck.{Presents}
 use Rattle.model.proofs.Forms.{text-passes}
 
 -- ---- read

@@ -6,8 +6,8 @@ use Prim.Native.Nat.{ℕ, suc, _+_, _-_, _≤_}
 use native.Mathlib.Nat.{add-zero}
 use native.Mathlib.Omega.{arith}
 use lib.Dec.{eqb, leb}
-use lib.ListN.{length, drop, length-append, length-drop}
-use lib.Seq.{length-take-le}
+use lib.ListN.{length, take, drop, length-append, length-drop}
+use lib.Seq.{length-take-le, take-at, drop-at, drop-drop}
 use borrow.Author.Tests.{leb-true}
 use Rattle.model.specs.Answers.{passes}
 use Rattle.model.specs.Tree.{Span, Element, text, tag, Document, ε, _·_, size, sizeD, nodes, nodesD, words, wordsD, without-starts}
@@ -15,7 +15,8 @@ use Rattle.model.specs.Tree.{is-text, Keeps, KeepsD, Over}
 use Rattle.model.specs.Bytes.{less-byte, greater-byte, kind-of-text}
 use Rattle.model.specs.Names.{name-of, names-of}
 use Rattle.model.specs.Text.{text-node, tag-node, form-of}
-use Rattle.model.specs.Written.{source-bytes, tagged, written, writtenD, trimmed-text, good-text, good-words, texts-checked}
+use Rattle.model.specs.Written.{source-bytes, node-texts, tagged, written, writtenD}
+use Rattle.model.specs.Written.{trimmed-text, good-text, good-words, texts-checked}
 use Rattle.model.specs.Grammar.{list-bytes, TagOf, NameList, no-white, end-bytes, ElementAt, empty, full, ContentAt, TagsAt, no-more}
 use Rattle.model.specs.Grammar.{more, Form, form}
 use Rattle.model.specs.Grammar as grammar
@@ -100,6 +101,52 @@ module _ (list s : List ℕ) where
         rw (append-assoc (words (placed i e)) (wordsD (placedD j d)) r, append-assoc (words e) (wordsD d) r′)
         (placed-words e i u (wordsD (placedD j d) ++ r) (wordsD d ++ r′) (placed-wordsD d j v r r′ h))
 
+  -- the content of a tag stands where it begins, in a text t in which the tag is written from offset i on
+  content-here : (a : ℕ) (d : Document) (i : ℕ) (t rest : List ℕ) → drop i t ≡ tagged (name-of list a) d (writtenD list s d) ++ rest
+      → (after : List ℕ) × (drop (content-at i a) t ≡ writtenD list s d ++ after)
+  unfolding tagged written
+  content-here a ε i t rest at = (drop (content-at i a) t, refl)
+  content-here a (e · d) i t rest at =
+      let name = name-of list a in
+      let begin = less-byte ∷ (name ++ (greater-byte ∷ [])) in
+      let content = writtenD list s (e · d) in
+      let after = end-bytes name [] ++ rest in
+      let split : drop i t ≡ begin ++ (content ++ after) = at ∙ simp append-assoc in
+      let place : content-at i a ≡ i + length begin = omega (arith, length-append name (greater-byte ∷ [])) in (
+        after,
+        ap (λ (k : ℕ). drop k t) place ∙ sym (drop-drop (length begin) i t) ∙ ap (drop (length begin)) split
+            ∙ drop-at begin (content ++ after) (length begin) refl,
+      )
+
+  -- each node has the same bytes, in a text t in which the form is written from offset i on
+  mutual
+    unfolding words nodes written tagged placed tag-node good-words source-bytes node-texts
+
+    placed-texts : (e : Element) (i : ℕ) → GoodNodes s (nodes e) → (t rest : List ℕ) → drop i t ≡ written list s e ++ rest
+        → (r r′ : List ℕ) → node-texts t r ≡ node-texts s r′ → node-texts t (words (placed i e) ++ r) ≡ node-texts s (words e ++ r′)
+    placed-texts (text k w) i good t rest at r r′ h =
+        let g = good-text-is s k w (every-cons (good-words s) (text k w) [] good .0) in
+        ap₂ (λ (b : List ℕ) (l : List (List ℕ)). b ∷ l) (ap (take (w .bytes)) at ∙ take-at (source-bytes s w) rest (w .bytes) (g .long)) h
+    placed-texts (tag a w d) i good t rest at r r′ h =
+        let (u, v) = every-cons (good-words s) (tag a w d) (nodesD d) good in
+        let (after, here) = content-here a d i t rest at in
+        rw (no-bytes s a w d u) (ap (λ (l : List (List ℕ)). [] ∷ l) (placed-textsD d (content-at i a) v t after here r r′ h))
+
+    placed-textsD : (d : Document) (i : ℕ) → GoodNodes s (nodesD d) → (t rest : List ℕ) → drop i t ≡ writtenD list s d ++ rest
+        → (r r′ : List ℕ) → node-texts t r ≡ node-texts s r′ → node-texts t (wordsD (placedD i d) ++ r) ≡ node-texts s (wordsD d ++ r′)
+    placed-textsD ε i good t rest at r r′ h = h
+    placed-textsD (e · d) i good t rest at r r′ h =
+        let (u, v) = every-append (good-words s) (nodes e) (nodesD d) good in
+        let bytes = written list s e in
+        let j = i + length bytes in
+        let split : drop i t ≡ bytes ++ (writtenD list s d ++ rest) = at ∙ append-assoc bytes (writtenD list s d) rest in
+        let here : drop j t ≡ writtenD list s d ++ rest
+        = sym (drop-drop (length bytes) i t) ∙ ap (drop (length bytes)) split
+        ∙ drop-at bytes (writtenD list s d ++ rest) (length bytes) refl in
+        rw (append-assoc (words (placed i e)) (wordsD (placedD j d)) r, append-assoc (words e) (wordsD d) r′)
+        (placed-texts e i u t (writtenD list s d ++ rest) split (wordsD (placedD j d) ++ r) (wordsD d ++ r′)
+        (placed-textsD d j v t rest here r r′ h))
+
   -- it keeps the same rules
   placed-text : (e : Element) (i : ℕ) → is-text (placed i e) ≡ is-text e
   unfolding is-text placed tag-node
@@ -119,6 +166,11 @@ module _ (list s : List ℕ) where
     placed-keepsD (e · d) g levels b i keeps =
         rw (placed-text e i)
         (keeps .0, placed-keeps e g levels i (keeps .1), placed-keepsD d g levels (is-text e) (i + length (written list s e)) (keeps .2))
+
+-- f, with its texts in t, is e, with its texts in s, but for where texts start
+pub record Rewritten (s t : List ℕ) (e f : Element) : Type 0 where
+  pub same-words : without-starts (words f) ≡ without-starts (words e)
+  pub same-texts : node-texts t (words f) ≡ node-texts s (words e)
 
 -- ---- a written form is a form by the grammar
 
@@ -193,9 +245,10 @@ module _ (names : List (List ℕ)) (is-list : NameList names) (s : List ℕ) whe
         (λ t. written-element e levels i t (keeps .1) u) u
         (written-document d levels (is-text e) (i + length (written list s e)) (keeps .2) v)
 
-  -- so it is read again, with the same words but for text starts
+  -- so it is read again, with the same words but for text starts, and the same bytes of texts
   written-again : (e : Element) → Over (length names) e → texts-checked s 0 (nodes e) ≡ passes tt → length (written list s e) ≤ 65535
-      → (f : Element) × (form-of list (written list s e) ≡ passes (f · ε)) × (without-starts (words f) ≡ without-starts (words e))
+      → (f : Element) × (form-of list (written list s e) ≡ passes (f · ε)) × Rewritten s (written list s e) e f
+  unfolding node-texts
   written-again e over texts short =
       let f = placed list s 0 e in
       let good = texts-good s 0 (nodes e) .0 texts in
@@ -208,17 +261,21 @@ module _ (names : List (List ℕ)) (is-list : NameList names) (s : List ℕ) whe
       } in (
         f,
         form-taken names is-list (record { is-form = is-form; keeps = over′; short = short }),
-        simp append-nil at (placed-words list s e 0 good [] [] refl),
+        record {
+          same-words = simp append-nil at (placed-words list s e 0 good [] [] refl);
+          same-texts = simp append-nil at
+              (placed-texts list s e 0 good (written list s e) [] (sym (append-nil (written list s e))) [] [] refl);
+        },
       )
 
--- A form that the writer writes is read again, with the same words but for text starts.
+-- A form that the writer writes is read again, with the same words but for text starts, and the same bytes of texts.
 pub written-read : (list s : List ℕ) (g : ℕ) (e : Element) → names-of list ≡ passes g → Over g e → texts-checked s 0 (nodes e) ≡ passes tt
     → length (written list s e) ≤ 65535
-    → (f : Element) × (form-of list (written list s e) ≡ passes (f · ε)) × (without-starts (words f) ≡ without-starts (words e))
+    → (f : Element) × (form-of list (written list s e) ≡ passes (f · ε)) × Rewritten s (written list s e) e f
 written-read list s g e checked over texts short =
     let (names, l, is-list, n) = names-pass list g .0 checked in
     subst Again (sym l) (written-again names is-list s e (subst (λ (g : ℕ). Over g e) (sym n) over) texts) short
   where
     Again : List ℕ → Type 0
     Again list = length (written list s e) ≤ 65535
-        → (f : Element) × (form-of list (written list s e) ≡ passes (f · ε)) × (without-starts (words f) ≡ without-starts (words e))
+        → (f : Element) × (form-of list (written list s e) ≡ passes (f · ε)) × Rewritten s (written list s e) e f

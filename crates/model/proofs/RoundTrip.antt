@@ -1,5 +1,5 @@
 -- Round trip: a tree that is written is read again, and a text that is read is written and read again: the same words but for text starts.
-use mathlib.Core.Path.{_≡_, refl, sym, ap, _∙_}
+use mathlib.Core.Path.{_≡_, refl, sym, ap, ap₂, _∙_}
 use mathlib.Core.Bool.{Bool, true, false, cond}
 use mathlib.Core.List.{List, [], _∷_, append-nil}
 use Prim.Native.Nat.{ℕ, _*_, _≤_}
@@ -11,7 +11,7 @@ use Rattle.model.specs.Answers.{passes, refuses, _>>=_, _>>_, require, r
 use Rattle.model.specs.Tree.{Element, Document, ε, _·_, size, sizeD, nodes, words, wordsD, without-starts, tree-of}
 use Rattle.model.specs.Names.{names-of}
 use Rattle.model.specs.Text.{form-of}
-use Rattle.model.specs.Written.{written, texts-checked, short-enough}
+use Rattle.model.specs.Written.{node-texts, written, texts-checked, short-enough}
 use Rattle.model.specs.Calls.{read, write}
 use Rattle.model.proofs.CheckLaws.{refuses≢passes, passes-inj, bind-inv, then-inv, required, require-is}
 use Rattle.model.proofs.TreeLaws.{tree-passes, length-words}
@@ -92,22 +92,24 @@ writes-pass list s tree room g e names long tree-is texts short fits =
 
 -- ---- written and read again
 
--- For every tree and text that pass 10 and 11 and are not over 24: what is written is read as the same words but for text starts.
+-- For every tree and text that pass 10 and 11 and are not over 24: what is written is read as the same words but for text starts, and
+-- each text has the bytes that it had.
 pub write-read : (list s tree : List ℕ) (room : ℕ) {bytes : List ℕ} → write list s tree room ≡ passes bytes
-    → (again : ℕ) → length tree ≤ again → (d : Document) × (read list bytes again ≡ passes d) ×
-    (without-starts (wordsD d) ≡ without-starts tree)
+    → (again : ℕ) → length tree ≤ again → (d : Document) × (read list bytes again ≡ passes d)
+    × (without-starts (wordsD d) ≡ without-starts tree) × (node-texts bytes (wordsD d) ≡ node-texts s tree)
 unfolding read _>>=_ _>>_
 write-read list s tree room {bytes} h again fits =
     let w = write-inv list s tree room h in
     let (t, over) = tree-passes (w .tags) (few-names list (w .tags) (w .names)) tree (w .form) .0 (w .tree-is) in
-    let (f, reads, same) = written-read list s (w .tags) (w .form) (w .names) over (w .texts) (w .short) in
-    let long : length (words f) ≡ length tree = sym (length-without (words f)) ∙ ap length same ∙ length-without
+    let (f, reads, again-is) = written-read list s (w .tags) (w .form) (w .names) over (w .texts) (w .short) in
+    let long : length (words f) ≡ length tree = sym (length-without (words f)) ∙ ap length (again-is .same-words) ∙ length-without
     (words (w .form)) ∙ ap length (sym t) in
     let fits′ : 4 * sizeD (f · ε) ≤ again = omega (arith, one-size f, length-words f) in
     let reads′ : form-of list bytes ≡ passes (f · ε) = ap (form-of list) (sym (w .bytes-are)) ∙ reads in (
       f · ε,
       rw (w .names, reads′, room-passes (4 * sizeD (f · ε)) again fits′),
-      ap without-starts (one-words f) ∙ same ∙ ap without-starts (sym t),
+      ap without-starts (one-words f) ∙ again-is .same-words ∙ ap without-starts (sym t),
+      ap₂ node-texts (sym (w .bytes-are)) (one-words f) ∙ again-is .same-texts ∙ ap (node-texts s) (sym t),
     )
 
 -- For every text and name list that read takes, the tree is refused by nothing, 24 included, where there is room for as many
@@ -125,10 +127,11 @@ read-write list s room {d} h again fits =
     let tree-is : tree-of g (wordsD d) ≡ passes e = tree-passes g (few-names list g names) (wordsD d) e .1 (t, over) in
     (written list s e, writes-pass list s (wordsD d) again g e names long tree-is texts (omega arith) (omega arith))
 
--- And read again it is the same words but for text starts.
+-- And read again it is the same words but for text starts, and each text has the bytes that it had.
 pub read-write-read : (list s : List ℕ) (room : ℕ) {d : Document} → read list s room ≡ passes d → (again : ℕ) → length s ≤ again
     → (bytes : List ℕ) × (write list s (wordsD d) again ≡ passes bytes)
-    × ((c : Document) × (read list bytes (length (wordsD d)) ≡ passes c) × (without-starts (wordsD c) ≡ without-starts (wordsD d)))
+    × ((c : Document) × (read list bytes (length (wordsD d)) ≡ passes c) × (without-starts (wordsD c) ≡ without-starts (wordsD d))
+    × (node-texts bytes (wordsD c) ≡ node-texts s (wordsD d)))
 read-write-read list s room {d} h again fits =
     let (bytes, w) = read-write list s room h again fits in
     (bytes, w, write-read list s (wordsD d) again w (length (wordsD d)) (omega arith))

@@ -15,3 +15,4 @@ pub mod Written
 pub mod Grammar
 pub mod Calls
 pub mod Line
+pub mod Demands

@@ -14,6 +14,14 @@ use Rattle.model.specs.Names.{name-of}
 unfoldable pub source-bytes : List ℕ → Span → List ℕ
 source-bytes source w = take (w .bytes) (drop (w .start) source)
 
+-- the bytes that each node's text words say, of the words of nodes: those of a text; none of a tag, whose text words are 0
+unfoldable pub node-texts : (source words : List ℕ) → List (List ℕ)
+node-texts source [] = []
+node-texts source (a ∷ []) = []
+node-texts source (a ∷ b ∷ []) = []
+node-texts source (a ∷ b ∷ c ∷ []) = []
+node-texts source (a ∷ b ∷ c ∷ d ∷ t) = source-bytes source (record { start = c; bytes = d }) ∷ node-texts source t
+
 -- ---- the written form
 
 -- <name/> for an empty element; <name> and </name> around any other content

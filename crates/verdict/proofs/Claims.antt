@@ -2,9 +2,9 @@
 -- holds; `names_array`, `sheet_array` and `form_array` promise how much that is.
 use mathlib.Core.Path.{_≡_, sym, ap, _∙_}
 use mathlib.Core.Logic.{_↔_}
-use mathlib.Core.List.{List, _++_}
+use mathlib.Core.List.{List}
 use Prim.Native.Nat.{ℕ}
-use lib.ListN.{length, take, drop}
+use lib.ListN.{take, drop}
 use lib.Seq.{take-at, drop-at}
 use denote.Ref.{now}
 use Rattle.model.specs.Answers.{Said, accepted}
@@ -13,27 +13,22 @@ use Rattle.model.specs.Sheet.{Sheet}
 use Rattle.model.specs.Relation.{Accepts}
 use Rattle.model.specs.Calls.{formcheck}
 use Rattle.model.specs.Line.{line-of, formcheck-line}
+use Rattle.model.specs.Demands.{LinePromised, Presents}
 use Rattle.model.proofs.Formcheck as model
-use Rattle.model.proofs.Formcheck.{Presents}
 use Rattle.model.proofs.LineLaws.{line-tells}
 use Rattle.verdict_sizes.specs.Sizes.{names-bytes, sheet-bytes, form-bytes}
 use Rattle.verdict_sizes.proofs.Whole.{whole}
 use Rattle.verdict.proofs.line.Reads as reads
 
--- What `line` promises of its answer r and of what it leaves of the lent array: two of its `ensures`, on the bytes that it is lent.
-pub record Promised (list file s out : List ℕ) (r : ℕ) (left : List ℕ) : Type 0 where
-  pub count : r ≡ length (formcheck-line list file s)
-  pub buffer : left ≡ formcheck-line list file s ++ drop r out
-
--- The promise that is proved of the code gives this one: `reads.Post` is how the `ensures` of `line` read, of lifetimes κs, arguments a,
--- answer r, and x, what the arguments hold at the end.
+-- The promise that is proved of the code gives `LinePromised`, two of its `ensures` on the bytes that it is lent: `reads.Post` is how the
+-- `ensures` of `line` read, of lifetimes κs, arguments a, answer r, and x, what the arguments hold at the end.
 pub promised : (κs : _) (a : _) (r : ℕ) (x : _) → reads.Post κs a r x
-    → Promised (now (a .0)) (now (a .1 .0)) (now (a .1 .1 .0)) (now (a .1 .1 .1 .0)) r (now (x .1 .1 .1 .0))
+    → LinePromised (now (a .0)) (now (a .1 .0)) (now (a .1 .1 .0)) (now (a .1 .1 .1 .0)) r (now (x .1 .1 .1 .0))
 promised κs a r x (count, (buffer, within)) = record { count = count; buffer = buffer }
 
 -- `line`, lent the fronts that are read, leaves the line of the files in its first r bytes, and what stood behind them.
 module _ (list file s : List ℕ) {out left : List ℕ} {r : ℕ}
-    (promise : Promised (take names-bytes list) (take sheet-bytes file) (take form-bytes s) out r left) where
+    (promise : LinePromised (take names-bytes list) (take sheet-bytes file) (take form-bytes s) out r left) where
   pub line-left : take r left ≡ formcheck-line list file s
   line-left = ap (take r) (promise .buffer) ∙ take-at _ (drop r out) r (sym (promise .count)) ∙ whole list file s
 

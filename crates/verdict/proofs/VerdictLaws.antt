@@ -21,9 +21,10 @@ use Rattle.model.proofs.CheckLaws.{refuses≢passes, passes-inj, bind-inv, bind
 use Rattle.model.proofs.SheetCode.{sheet-passes}
 use Rattle.model.proofs.ReadGood.{read-good}
 use Rattle.model.proofs.RoundTrip.{one-size, one-words, room-passes}
-use Rattle.model.proofs.Formcheck.{Presents, judged}
+use Rattle.model.proofs.Formcheck.{judged}
 use Rattle.model.proofs.Answered as answered
 use Rattle.model.specs.Index.{passed, sheet-in, Passes}
+use Rattle.model.specs.Demands.{Presents}
 
 -- ---- a buffer with enough room refuses nothing
 
