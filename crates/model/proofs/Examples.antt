@@ -12,5 +12,6 @@ pub data All (P : Row → Type 0) : List Row → Type 0 where
   ◌and◌ : {a : Row} {l : List Row} → P a → All P l → All P (a ∷ l)
 
 pub all-∈ : {l : List Row} → All Holds l → (a : Row) → a ∈ l → Holds a
+all-∈ that_is-all a m = elim m [ ]
 all-∈ (h and hs) a (Memᴰ.head e) = subst Holds (sym e) h
 all-∈ (h and hs) a (Memᴰ.tail m) = all-∈ hs a m

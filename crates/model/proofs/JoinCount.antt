@@ -68,14 +68,17 @@ module _ (F : ℕ → List Coefficient) (x : ℕ) (other : (y : ℕ) → y ≢ x
       total-append (F y) (flat_map F l) (x ∷ []) ∙ ap₂ ◌+ℤ◌ (other y (apart y (Memᴰ.head refl)))
       (weight_apart l (λ z m. apart z (Memᴰ.tail m)))
 
-  weight_pick : {l : List ℕ} → Ascending l → x ∈ l → weight (flat_map F l) x ≡ weight (F x) x
+  weight_at : {l : List ℕ} → x ∈ l → Ascending l → weight (flat_map F l) x ≡ weight (F x) x
   unfolding flat_map
-  weight_pick (a, al) (Memᴰ.head {x = y} {xs = l} e) =
+  weight_at (Memᴰ.head {x = y} {xs = l} e) (a, al) =
       total-append (F y) (flat_map F l) (x ∷ [])
       ∙ ap₂ ◌+ℤ◌ (ap (λ (z : ℕ). weight (F z) x) (sym e)) (weight_apart l (λ z m i. let h = a z m in omega arith)) ∙ +ℤ_idr (weight (F x) x)
-  weight_pick (a, al) (Memᴰ.tail {x = y} {xs = l} m) =
+  weight_at (Memᴰ.tail {x = y} {xs = l} m) (a, al) =
       total-append (F y) (flat_map F l) (x ∷ [])
-      ∙ ap₂ ◌+ℤ◌ (other y (λ i. let h = a x m in omega arith)) (weight_pick al m) ∙ +ℤ_idl (weight (F x) x)
+      ∙ ap₂ ◌+ℤ◌ (other y (λ i. let h = a x m in omega arith)) (weight_at m al) ∙ +ℤ_idl (weight (F x) x)
+
+  weight_pick : {l : List ℕ} → Ascending l → x ∈ l → weight (flat_map F l) x ≡ weight (F x) x
+  weight_pick al m = weight_at m al
 
 -- ---- lifted sums
 

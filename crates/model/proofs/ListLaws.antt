@@ -40,10 +40,13 @@ has_no {l} {q} f = go (told (has l q))
     go (yea e) = absurd (f (has-∈ l e))
     go (nay e) = e
 
-pub every-∈ : {A : Type 0} (f : A → Bool) {l : List A} → Yes (every f l) → (a : A) → a ∈ l → Yes (f a)
+every_member : {A : Type 0} (f : A → Bool) (a : A) {l : List A} → a ∈ l → Yes (every f l) → Yes (f a)
 unfolding every
-every-∈ f t a (Memᴰ.head {x = x} {xs = xs} e) = subst (λ y. Yes (f y)) (sym e) (and_left (f x) (every f xs) t)
-every-∈ f t a (Memᴰ.tail {x = x} {xs = xs} m) = every-∈ f (and_right (f x) (every f xs) t) a m
+every_member f a (Memᴰ.head {x = x} {xs = xs} e) t = subst (λ y. Yes (f y)) (sym e) (and_left (f x) (every f xs) t)
+every_member f a (Memᴰ.tail {x = x} {xs = xs} m) t = every_member f a m (and_right (f x) (every f xs) t)
+
+pub every-∈ : {A : Type 0} (f : A → Bool) {l : List A} → Yes (every f l) → (a : A) → a ∈ l → Yes (f a)
+every-∈ f t a m = every_member f a m t
 
 pub ∈-every : {A : Type 0} (f : A → Bool) (l : List A) → ((a : A) → a ∈ l → Yes (f a)) → Yes (every f l)
 unfolding every

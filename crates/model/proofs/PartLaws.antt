@@ -63,7 +63,7 @@ module _ {A : Type 0} (words : A → List ℕ) {In : A → Type 0} {s : List ℕ
   part_nth {a} (x ∷ xs) d (suc k) h l =
       let e : a + length (words x ++ flat_map words (take k xs)) ≡ a + length (words x) + length (flat_map words (take k xs))
       = omega (arith, length-append (words x) (flat_map words (take k xs))) in
-      rw e (part_nth xs d k (parts_later h) (omega arith))
+      rw e (part_nth {a = a + length (words x)} xs d k (parts_later h) (omega arith))
 
 -- k of n parts are passed, and the rest stands from i on
 pub record PartsLeft {A : Type 0} (words : A → List ℕ) (In : A → Type 0) (s : List ℕ) (n i k : ℕ) (rest : List A) : Type 0 where

@@ -205,7 +205,7 @@ module _ (p : ℕ) (w : List ℕ) where
   last_tells {bs} ts i s (t ∷ ss) (ok, oks) =
       let e : length bs + suc (length ss) ≡ length (bs ++ (holds w bs s ∷ [])) + length ss
       = omega (arith, length-append bs (holds w bs s ∷ [])) in
-      rw e (last_tells (tell_last ts (step_tells ts i s ok)) (suc i) t ss oks)
+      rw e (last_tells {bs = bs ++ (holds w bs s ∷ [])} (tell_last ts (step_tells ts i s ok)) (suc i) t ss oks)
 
 -- the truths of a count part's steps accept a word exactly when it satisfies the count part
 pub count_fits : (p : ℕ) (c : Option (List Step)) (w : List ℕ) → IfAny (CountInRange p) c → (fits_count c w ≡ true) ↔ Satisfied c w
