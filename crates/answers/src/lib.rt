@@ -1,4 +1,6 @@
 // Answers as numbers: for C, and for programs that print them.
+#![tactic(auto)]
+
 ghost use Rattle.model.specs.Answers.{refusal, said_refusal, said, said_judgement};
 ghost use Rattle.answers.specs.Numbers.{Tells};
 
@@ -20,7 +22,7 @@ const TEXT_END: usize = 65535;
 
 // The kind of an answer and its two values: of a count the number and 0, of a verdict the state or node and the looks, of an error
 // the refusal's number and place.
-#[derive(Drop)]
+#[derive(Clone, Copy)]
 pub struct Numbers {
     pub kind: u32,
     pub first: u64,

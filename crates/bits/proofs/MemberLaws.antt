@@ -45,10 +45,10 @@ members-suc k n =
 
 -- ---- what the machine counts and finds
 
-ones_in : (k n : ℕ) → n < 2 ^ k → ones n ≡ ones_in k n
+ones_up_to : (k n : ℕ) → n < 2 ^ k → ones n ≡ ones_in k n
 unfolding ones ones_in
-ones_in zero n h = let e : n ≡ 0 = omega arith in ap ones e
-ones_in (suc k) n h = ones_step n ∙ ap (λ (x : ℕ). n % 2 + x) (ones_in k (n / 2) (omega (arith, pow-suc 2 k)))
+ones_up_to zero n h = let e : n ≡ 0 = omega arith in ap ones e
+ones_up_to (suc k) n h = ones_step n ∙ ap (λ (x : ℕ). n % 2 + x) (ones_up_to k (n / 2) (omega (arith, pow-suc 2 k)))
 
 members_ones : (k n : ℕ) → ones_in k n ≡ length (members k n)
 unfolding ones_in members flat_map from
@@ -61,7 +61,7 @@ members_ones (suc k) n = rw (members-suc k n, members_ones k (n / 2)) (go (n % 2
     go (suc (suc d)) h l = absurd (omega arith)
 
 pub size_is : (k n : ℕ) → n < 2 ^ k → ones n ≡ length (members k n)
-size_is k n h = ones_in k n h ∙ members_ones k n
+size_is k n h = ones_up_to k n h ∙ members_ones k n
 
 pub lowest_is : (k n : ℕ) → count_trailing_zeros k n ≡ get_or (members k n) 0 k
 unfolding count_trailing_zeros members flat_map from

@@ -1,4 +1,6 @@
 // Sets of numbers below 64 as the bits of a u64, arc words, and signed words.
+#![tactic(auto)]
+
 ghost use Rattle.std.specs.Prelude.{◌≡◌, cond, ◌&&◌, ◌||◌, ◌+◌, ◌*◌, eqb, length, get_or, drop};
 ghost use Rattle.model.specs.Sheet.{W, bit, mask, members, arc_of, signed};
 ghost use Rattle.model.specs.Words.{meets, remainder_of};
@@ -72,7 +74,7 @@ pub fn without_lowest(set: u64) -> u64
     set & (set - 1)
 }
 
-#[derive(Drop)]
+#[derive(Clone, Copy)]
 pub struct Arc {
     pub leaves: u32,
     pub reads: u32,

@@ -1,6 +1,8 @@
 // The calls for C: slices of bytes and 32-bit words, and answers as numbers. Each call returns the kind of its answer, and hands
 // the kind and the two values over in a lent array of 64-bit words. An array that is too short for them gets as many as fit, so a
 // caller who lends none loses the values and nothing else.
+#![tactic(auto)]
+
 ghost use Rattle.std.specs.Prelude.{◌≡◌};
 ghost use Rattle.model.specs.Calls.{names_said, read_said, read_tree, tree_said, write_said, write_out, sheet_said, from_file_said};
 ghost use Rattle.model.specs.Calls.{from_file_sheet, judge_said, judge_states, swap_said, swap_out, join_said, join_out, formcheck};

@@ -1,4 +1,6 @@
 // An answer's numbers, handed over in a lent array.
+#![tactic(auto)]
+
 ghost use Rattle.std.specs.Prelude.{◌≡◌};
 ghost use Rattle.capi_lent.specs.Lent.{filled};
 

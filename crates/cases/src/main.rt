@@ -1,5 +1,7 @@
 // Runs the calls on the cases of standard input, and prints each with its answer. The head of the file `stdin` says how a case is
 // written and what is printed.
+#![tactic(auto)]
+
 ghost use Rattle.std.specs.Prelude.{◌≡◌, length};
 
 mod lines;

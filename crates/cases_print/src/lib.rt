@@ -1,4 +1,6 @@
 // What is printed: lines, answers, and lent buffers.
+#![tactic(auto)]
+
 ghost use Rattle.std.specs.Prelude.{◌<◌, ◌^◌};
 
 use cases_scan::bytes_of;

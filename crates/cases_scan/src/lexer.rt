@@ -24,7 +24,7 @@ const NO_DIGIT: u64 = 0x1_0000_0000;
 
 const TOO_LARGE: u64 = 0x2_0000_0000;
 
-#[derive(Drop)]
+#[derive(Clone, Copy)]
 pub struct Lexer {
     pub mode: u32,
     // the first byte of an item or operator, and its index

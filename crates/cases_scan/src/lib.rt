@@ -1,4 +1,6 @@
 // Bytes of the input, its lines, and the items of a line. A line is lent as the input up to the line's end, with its line feed.
+#![tactic(auto)]
+
 ghost use Rattle.std.specs.Prelude.{◌<◌, ◌≤◌};
 
 pub mod lexer;

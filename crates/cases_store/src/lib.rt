@@ -1,3 +1,5 @@
 // Arrays that are lent, and the store: the words of values.
+#![tactic(auto)]
+
 pub mod buffers;
 pub mod store;

@@ -9,7 +9,7 @@ use cases_store::store::{
 // where no group is open
 const NONE: usize = 0xFFFF_FFFF;
 
-#[derive(Drop)]
+#[derive(Clone, Copy)]
 pub struct Values {
     // the call that takes them, 0 where they are named
     pub call: usize,

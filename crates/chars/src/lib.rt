@@ -1,4 +1,6 @@
 // The class of each byte, in a table; and tests of a byte by comparisons.
+#![tactic(auto)]
+
 ghost use Rattle.std.specs.Prelude.{◌≡◌};
 ghost use Rattle.model.specs.Bytes.{white, is, class_of, digit_byte, kind_of_text};
 ghost use Rattle.model.specs.Written.{text_byte};

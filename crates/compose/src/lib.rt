@@ -1,4 +1,6 @@
 // Swapping and joining sheets.
+#![tactic(auto)]
+
 ghost use Rattle.std.specs.Prelude.{◌≡◌, ℕ, ◌+◌, ◌≤◌};
 ghost use Rattle.model.specs.Answers.{refusal, said, said_refusal};
 ghost use Rattle.model.specs.Index.{Indexed};

@@ -1,4 +1,6 @@
 // Files, for programs.
+#![tactic(auto)]
+
 ghost use Rattle.io.specs.Counts.{IsPrefixLen};
 
 // Reads the front of a file, as much as the buffer holds, and gives its number of bytes. A missing file is empty. No promise can

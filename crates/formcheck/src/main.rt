@@ -1,5 +1,6 @@
 // formcheck: reads names.txt, sheet.bin and form.txt in the folder that it is run in, and prints one line: the verdict with its
 // state or node and its looks, or the error with its number and place. What it prints is the proved line of the bytes that it read.
+#![tactic(auto)]
 
 const STDOUT: i32 = 1;
 

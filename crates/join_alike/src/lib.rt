@@ -1,4 +1,6 @@
 // Rules of the two sheets of a join that have one key: these pair up.
+#![tactic(auto)]
+
 ghost use Rattle.std.specs.Prelude.{◌≡◌, ◌+◌, ◌-◌, ◌/◌, ◌^◌, ◌<◌, length, get_or};
 ghost use Rattle.model.specs.Spans.{there_is, order_part};
 ghost use Rattle.model.specs.Index.{key};
@@ -9,7 +11,7 @@ use layout::{ENTRIES, STATES, wide};
 use parts::{at, entry_of, field, has_count, has_order, key_of, order_length};
 
 // A rule of a sheet by its number, the index of its first word, and that of its target, which is its last.
-#[derive(Drop)]
+#[derive(Clone, Copy)]
 pub struct Spot {
     pub rule: usize,
     pub at: usize,
@@ -17,14 +19,14 @@ pub struct Spot {
 }
 
 // A rule of S and a rule of T.
-#[derive(Drop)]
+#[derive(Clone, Copy)]
 pub struct RulePair {
     pub s: Spot,
     pub t: Spot,
 }
 
 // A rule of S that meets rules of T, and what is the same for all rules of S: how many states the two sheets have, and how many rules T.
-#[derive(Drop)]
+#[derive(Clone, Copy)]
 pub struct Row {
     pub rule: Spot,
     pub sizes: Sizes,

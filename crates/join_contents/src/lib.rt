@@ -1,4 +1,6 @@
 // The joint rules of content rules.
+#![tactic(auto)]
+
 ghost use Rattle.std.specs.Prelude.{◌≡◌, ◌≢◌, get_or};
 ghost use Rattle.model.specs.Spans.{map_of};
 ghost use Rattle.page.specs.Page.{Writes};

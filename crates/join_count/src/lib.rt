@@ -1,4 +1,6 @@
 // Count parts of joint rules: one alone lifted to pairs of states, and two joined.
+#![tactic(auto)]
+
 ghost use Rattle.std.specs.Prelude.{◌≤◌, get_or};
 ghost use Rattle.model.specs.Compose.{of_side};
 ghost use Rattle.page.specs.Page.{Writes};
@@ -15,7 +17,7 @@ use page::{copy, put};
 const MARKS: usize = 2;
 
 // How steps are lifted: of which sheet they are, how many states both have, and by how much step numbers are shifted.
-#[derive(Drop)]
+#[derive(Clone, Copy)]
 struct Lift {
     side: Side,
     sizes: Sizes,

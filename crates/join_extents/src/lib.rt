@@ -1,4 +1,6 @@
 // How large the rules of two sheets are, and the joint rule of two.
+#![tactic(auto)]
+
 ghost use Rattle.std.specs.Prelude.{◌≡◌, ◌-◌, ◌^◌, ◌≤◌, length};
 ghost use Rattle.model.specs.Compose.{of_side};
 ghost use Rattle.join_pairs.specs.Sides.{side_of, sizes_of, FewPairs};
@@ -16,21 +18,21 @@ use parts::{at, field};
 const ORDER_HEAD: usize = 4;
 
 // How many positions and arcs an order part has: both 0 where there is none, else at least one position.
-#[derive(Drop)]
+#[derive(Clone, Copy)]
 pub struct OrderSize {
     pub positions: u32,
     pub arcs: u32,
 }
 
 // How many steps a count part has, and how many words over the pairs of states: both 0 where there is none.
-#[derive(Drop)]
+#[derive(Clone, Copy)]
 pub struct CountSize {
     pub steps: u32,
     pub words: usize,
 }
 
 // The sizes of a rule's parts.
-#[derive(Drop)]
+#[derive(Clone, Copy)]
 pub struct Extent {
     pub order: OrderSize,
     pub count: CountSize,

@@ -1,4 +1,6 @@
 // The limits of a joint sheet's rules and the number of their words, by a tally of them.
+#![tactic(auto)]
+
 ghost use Rattle.std.specs.Prelude.{◌≡◌, ◌+◌, ◌≤◌, ◌<◌, min};
 ghost use Rattle.join_pairs.specs.Sides.{sizes_of, FewPairs};
 ghost use Rattle.join_alike.specs.Alike.{pairs_in, joint_rules_in, Joinable, RowOf, row_in};
@@ -19,7 +21,7 @@ const MOST_RULES: usize = layout::MOST_RULES as usize;
 const CONTENT_WORDS: usize = 2;
 
 // How many rules there are, the place of the first limit that they exceed, or that of words, and how many words they have.
-#[derive(Drop)]
+#[derive(Clone, Copy)]
 pub struct Tally {
     pub rules: usize,
     pub place: usize,

@@ -1,4 +1,6 @@
 // Order parts of joint rules: one alone lifted to pairs of states, and two paired.
+#![tactic(auto)]
+
 ghost use Rattle.std.specs.Prelude.{◌≡◌, [], ◌∷◌, ℕ, ◌+◌, ◌*◌, ◌/◌, ◌%◌, ◌^◌, ◌≤◌, length};
 ghost use Rattle.model.specs.Lists.{row};
 ghost use Rattle.model.specs.Sheet.{Order, W};
@@ -46,7 +48,7 @@ fn lift_row(w: u32, side: Side, sizes: Sizes, out: &mut [u32], at: usize) -> usi
 }
 
 // What an order part has: how many positions, which of them accept, how many arcs, and from where to where the arcs are.
-#[derive(Drop)]
+#[derive(Clone, Copy)]
 pub struct OrderHead {
     pub positions: u32,
     pub accepting: u64,
@@ -107,7 +109,7 @@ fn pair_row(v: u32, words: &[u32], head: OrderHead, p: u32, out: &mut [u32], at:
 }
 
 // An order part of S and one of T.
-#[derive(Drop)]
+#[derive(Clone, Copy)]
 struct Heads {
     s: OrderHead,
     t: OrderHead,

@@ -1,23 +1,25 @@
 // The two sheets of a join, and their pairs of states as numbers.
+#![tactic(auto)]
+
 ghost use Rattle.std.specs.Prelude.{◌≡◌, ◌≤◌};
 ghost use Rattle.model.specs.Compose.{pair, beside, of_other};
 ghost use Rattle.join_pairs.specs.Sides.{side_of, sizes_of};
 
-#[derive(Drop)]
+#[derive(Clone, Copy)]
 pub enum Side {
     S,
     T,
 }
 
 // How many states each sheet has.
-#[derive(Drop)]
+#[derive(Clone, Copy)]
 pub struct Sizes {
     pub s: u32,
     pub t: u32,
 }
 
 // A place in each sheet's words.
-#[derive(Drop)]
+#[derive(Clone, Copy)]
 pub struct Places {
     pub s: usize,
     pub t: usize,

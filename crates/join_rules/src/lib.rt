@@ -1,4 +1,6 @@
 // Writes the joint rules of two sheets.
+#![tactic(auto)]
+
 ghost use Rattle.std.specs.Prelude.{◌≡◌, get_or};
 ghost use Rattle.page.specs.Page.{Writes};
 ghost use Rattle.join_alike.specs.Alike.{joint_rules_in, Joinable, RowOf, row_in, Alike, pair_in, FewPositions};

@@ -1,4 +1,6 @@
 // The words of swapped and joint sheets.
+#![tactic(auto)]
+
 ghost use Rattle.std.specs.Prelude.{◌≡◌};
 ghost use Rattle.model.specs.Sheet.{sheet_words};
 ghost use Rattle.model.specs.Compose.{swapped};

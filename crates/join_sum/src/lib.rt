@@ -1,4 +1,6 @@
 // Sums of joint count parts: a sum of one sheet lifted to pairs of states.
+#![tactic(auto)]
+
 ghost use Rattle.page.specs.Page.{Writes};
 ghost use Rattle.join_pairs.specs.Sides.{sizes_of, FewPairs};
 ghost use Rattle.join_sum.specs.Sums.{LiftsSum};
@@ -8,7 +10,7 @@ use page::{put_set, repeat_all, repeat_each};
 use sets::{ALL, pair_set};
 
 // What a sum has: the states that are marked, and from where to where their coefficients are, lowest state first.
-#[derive(Drop)]
+#[derive(Clone, Copy)]
 pub struct SumHead {
     pub marks: u64,
     pub from: usize,

@@ -1,4 +1,6 @@
 // Judge a tree by a sheet: the verdict with its looks, and each node's state.
+#![tactic(auto)]
+
 ghost use Rattle.std.specs.Prelude.{◌≡◌, ◌*◌, ◌/◌, ◌≤◌, length, get_or};
 ghost use Rattle.model.specs.Answers.{said_judgement, looks_in};
 ghost use Rattle.model.specs.Calls.{judge_said, judge_states};

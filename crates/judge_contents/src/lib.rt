@@ -1,4 +1,6 @@
 // Content: the states that an element's children reach together, by the kind-three rules.
+#![tactic(auto)]
+
 ghost use Rattle.std.specs.Prelude.{◌≡◌, ◌≢◌, ◌+◌, ◌≤◌, length, get_or};
 ghost use Rattle.model.specs.Index.{rules_in};
 ghost use Rattle.judge_order.specs.Order.{StateWords, states_of};
@@ -14,7 +16,7 @@ use layout::{ENTRIES, wide};
 const CONTENT: usize = 0;
 
 // Whether a rule fits, and how many children it reads.
-#[derive(Drop)]
+#[derive(Clone, Copy)]
 struct Tried {
     fits: bool,
     reads: usize,

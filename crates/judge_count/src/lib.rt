@@ -1,4 +1,6 @@
 // Count parts: how often each state occurs, signed sums of these numbers, and steps over earlier steps.
+#![tactic(auto)]
+
 ghost use Rattle.std.specs.Prelude.{◌≡◌, ◌+◌, ◌*◌, ◌^◌, ◌<◌, length, get_or, replicate, pos, nat_abs, ◌+ℤ◌, ◌*ℤ◌};
 ghost use Rattle.model.specs.Sheet.{bit};
 ghost use Rattle.judge_order.specs.Order.{StateWords, states_of};
@@ -9,14 +11,14 @@ use layout::{AND, AT_MOST, NOT, OR, REMAINDER};
 pub const STATES: usize = 64;
 
 // A sum, and the place after its words.
-#[derive(Drop)]
+#[derive(Clone, Copy)]
 struct Sum {
     total: i32,
     next: usize,
 }
 
 // Whether a step holds, and the place after its words.
-#[derive(Drop)]
+#[derive(Clone, Copy)]
 struct Step {
     holds: bool,
     next: usize,

@@ -1,4 +1,6 @@
 // A node: the states that it reaches, and the looks that it takes.
+#![tactic(auto)]
+
 ghost use Rattle.std.specs.Prelude.{◌+◌, ◌*◌, ◌^◌, ◌≤◌, ◌<◌, length};
 ghost use Rattle.model.specs.Index.{rules_in};
 ghost use Rattle.judge_rules.specs.Found.{Finds};
@@ -11,14 +13,14 @@ use layout::{NODE_WORDS, wide};
 use symbols::{Symbol, symbol_of};
 
 // The children of a node: one of them has no state, or all of them have one, and this is their number.
-#[derive(Drop)]
+#[derive(Clone, Copy)]
 enum Children {
     Stateless,
     Number(usize),
 }
 
 // A node by its number, the numbers of the sheet's rules, and what content without children reaches.
-#[derive(Drop)]
+#[derive(Clone, Copy)]
 pub struct At {
     pub node: usize,
     pub rules: Rules,

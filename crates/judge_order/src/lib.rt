@@ -1,4 +1,6 @@
 // Order parts: child states read through sets of positions, and how many children are read.
+#![tactic(auto)]
+
 ghost use Rattle.std.specs.Prelude.{List, map, ℕ};
 ghost use Rattle.model.specs.Sheet.{arc_of};
 ghost use Rattle.model.specs.Words.{next_set};
@@ -14,14 +16,14 @@ const ARCS: usize = 4;
 const START: u64 = 1;
 
 // Whether an order part fits, and how many children it reads.
-#[derive(Drop)]
+#[derive(Clone, Copy)]
 pub struct OrderRead {
     pub fits: bool,
     pub reads: u32,
 }
 
 // The positions after the last child that is read, and how many are read.
-#[derive(Drop)]
+#[derive(Clone, Copy)]
 struct Reading {
     set: u64,
     reads: u32,

@@ -1,4 +1,6 @@
 // What the rules of a sheet give, found along the chains of its index.
+#![tactic(auto)]
+
 mod numbers;
 mod targets;
 

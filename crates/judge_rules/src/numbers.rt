@@ -6,7 +6,7 @@ ghost use Rattle.judge_rules.specs.Rules.{RulesOf};
 use layout::{ENTRIES, RULES, TAG_RULE, TEXT_RULE};
 
 // The number of rules, of kind-one rules, of kind-two rules, and of rules with a count part.
-#[derive(Drop)]
+#[derive(Clone, Copy)]
 pub struct Rules {
     pub number: usize,
     pub ones: usize,

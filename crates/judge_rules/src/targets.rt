@@ -11,7 +11,7 @@ use crate::numbers::Rules;
 use layout::{ENTRIES, wide};
 
 // A set of target states, and how many looks were taken to find it.
-#[derive(Drop)]
+#[derive(Clone, Copy)]
 pub struct Found {
     pub targets: u64,
     pub looks: usize,

@@ -1,4 +1,6 @@
 // The run: every node judged, from the last to node 0; and its verdict.
+#![tactic(auto)]
+
 ghost use Rattle.std.specs.Prelude.{◌≡◌, ◌≤◌, length};
 ghost use Rattle.model.specs.Answers.{said_judgement};
 ghost use Rattle.model.specs.Index.{Indexed};
@@ -13,7 +15,7 @@ use layout::{INDEX_WORDS, MOST_NODES};
 use model::{Judgement, Refusal};
 
 // What a run comes to.
-#[derive(Drop)]
+#[derive(Clone, Copy)]
 enum Outcome {
     // every node has its state word; the looks
     All(usize),

@@ -1,4 +1,6 @@
 // State words: that of a node, those of all nodes, and the verdict that they give.
+#![tactic(auto)]
+
 ghost use Rattle.std.specs.Prelude.{◌≡◌, ◌<◌, length, get_or, set, replicate};
 ghost use Rattle.model.specs.Answers.{said_judgement};
 ghost use Rattle.model.specs.Run.{last_zero, root_verdict};

@@ -1,4 +1,6 @@
 // Document 01's numbers that more than one crate needs: the words of trees and sheets, and their limits; and a word as an index.
+#![tactic(auto)]
+
 ghost use Rattle.std.specs.Prelude.{◌≡◌};
 
 // A word as an index or a count.

@@ -1,4 +1,6 @@
 // The limits of refusal 21 by their places, and the first that a rule exceeds.
+#![tactic(auto)]
+
 ghost use Rattle.std.specs.Prelude.{◌≡◌, leb};
 ghost use Rattle.limits.specs.Limits.{first_of};
 

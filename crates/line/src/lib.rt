@@ -1,4 +1,6 @@
 // Answers as lines: the bytes that formcheck prints, put into a lent array.
+#![tactic(auto)]
+
 ghost use Rattle.std.specs.Prelude.{◌≡◌, ◌++◌, ◌+◌, ◌≤◌, length, drop};
 ghost use Rattle.io.specs.Counts.{IsPrefixLen};
 ghost use Rattle.model.specs.Answers.{count, said, said_judgement, said_refusal};

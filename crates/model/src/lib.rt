@@ -1,7 +1,8 @@
 // The answers of the public calls. `specs/Answers.antt` gives document 01's number and values for each case.
+#![tactic(auto)]
 
 // Why a call refuses its input, with the place that document 01 names.
-#[derive(Drop)]
+#[derive(Clone, Copy)]
 pub enum Refusal {
     // 1: the text has over 65,535 bytes
     LongText,
@@ -38,14 +39,14 @@ pub enum Refusal {
 }
 
 // A count of names, nodes, bytes or words, or a refusal.
-#[derive(Drop)]
+#[derive(Clone, Copy)]
 pub enum Answer {
     Count(usize),
     Error(Refusal),
 }
 
 // A verdict with the root's state, or the highest-numbered node without a state, and the looks; or a refusal.
-#[derive(Drop)]
+#[derive(Clone, Copy)]
 pub enum Judgement {
     Accepted(u32, u32),
     Refused(u32, u32),

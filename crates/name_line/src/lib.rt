@@ -1,4 +1,6 @@
 // What is asked of a line of a name list by itself.
+#![tactic(auto)]
+
 ghost use Rattle.std.specs.Prelude.{◌≡◌, ◌≤◌, length};
 ghost use Rattle.model.specs.Bytes.{is_name, letter_byte, name_byte};
 ghost use Rattle.chars.specs.Table.{table};

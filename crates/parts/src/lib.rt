@@ -1,4 +1,6 @@
 // The parts of a sheet in its words: how long each is, what a rule's map says, and the entries of a sheet's index. Every function is total.
+#![tactic(auto)]
+
 ghost use Rattle.std.specs.Prelude.{◌≡◌, ◌+◌, ◌*◌, ◌/◌, ◌%◌, ◌^◌, ◌<◌, min, get_or};
 ghost use Rattle.model.specs.Sheet.{W};
 ghost use Rattle.model.specs.Spans.{ordered, counted};
@@ -112,7 +114,7 @@ pub fn key_of(map: u32, second: u32) -> usize
 }
 
 // Where a rule begins, and the number of the next rule with its key.
-#[derive(Drop)]
+#[derive(Clone, Copy)]
 pub struct Entry {
     pub begin: usize,
     pub next: usize,

@@ -1,4 +1,6 @@
 // A form: one element, token by token, with white around it.
+#![tactic(auto)]
+
 ghost use Rattle.std.specs.Prelude.{◌≡◌, ◌≤◌, length};
 ghost use Rattle.model.specs.Answers.{passes};
 ghost use Rattle.model.specs.Names.{names_of};

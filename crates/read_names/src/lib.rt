@@ -1,4 +1,6 @@
 // Tags by their names.
+#![tactic(auto)]
+
 ghost use Rattle.std.specs.Prelude.{◌≡◌, true, ◌≤◌, length, drop};
 ghost use Rattle.model.specs.Bytes.{is_name, same_bytes};
 ghost use Rattle.model.specs.Names.{tag_of};

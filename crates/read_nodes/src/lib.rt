@@ -1,4 +1,6 @@
 // Nodes, each packed into one word of four fields: symbol, size, text start, text length.
+#![tactic(auto)]
+
 ghost use Rattle.std.specs.Prelude.{◌++◌, ◌≡◌, ◌+◌, ◌*◌, ◌≤◌, ◌<◌, length, take, drop};
 ghost use Rattle.std.proofs.lemmas.List.Edits.{sets};
 ghost use Rattle.read_nodes.specs.Packed.{packed, unpacked, all_unpacked, closed_words, closed_scan};

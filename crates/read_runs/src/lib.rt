@@ -1,4 +1,6 @@
 // Runs of bytes: white, names and texts.
+#![tactic(auto)]
+
 ghost use Rattle.std.specs.Prelude.{◌≡◌, ◌+◌, ◌-◌, ◌≤◌, ◌<◌, length, take, drop};
 ghost use Rattle.model.specs.Bytes.{class_number, class_of};
 ghost use Rattle.model.specs.Lists.{every};
@@ -16,7 +18,7 @@ const BLOCK: usize = 16;
 pub type Classes = [u8; 256];
 
 // An offset of a text, and the class of the byte there, or of the end.
-#[derive(Drop)]
+#[derive(Clone, Copy)]
 pub struct Seen {
     pub at: usize,
     pub class: u8,

@@ -1,4 +1,6 @@
 // How far a text is read, and what a token gives: the text goes on, or it is refused.
+#![tactic(auto)]
+
 ghost use Rattle.std.specs.Prelude.{◌≡◌};
 ghost use Rattle.read_scan.specs.Scans.{at_offset, stop_number, refusal_by, on_step, refused_step};
 
@@ -21,7 +23,7 @@ pub const MANY_NODES: usize = 7;
 
 // How far a text is read: the next byte, the node of the innermost open element, how many elements are open, and how many nodes
 // there are.
-#[derive(Drop)]
+#[derive(Clone, Copy)]
 pub struct Scan {
     pub at: usize,
     pub top: usize,
@@ -31,7 +33,7 @@ pub struct Scan {
 
 // Behind a token the text goes on, or it is refused: then `refused` is the number of the refusal, and the scan is at its place. This
 // is no enum, since one is written to memory and read again for each token.
-#[derive(Drop)]
+#[derive(Clone, Copy)]
 pub struct Step {
     pub refused: usize,
     pub scan: Scan,

@@ -1,4 +1,6 @@
 // The tags of a form: start tags, from the < on, and end tags, from the byte after the </ on.
+#![tactic(auto)]
+
 ghost use Rattle.std.specs.Prelude.{◌≡◌, ◌≤◌, ◌<◌, length};
 ghost use Rattle.model.specs.Text.{start_gap, end_open};
 ghost use Rattle.chars.specs.Table.{table};

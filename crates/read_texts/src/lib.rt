@@ -1,4 +1,6 @@
 // The texts of a form, each up to the < after it.
+#![tactic(auto)]
+
 ghost use Rattle.std.specs.Prelude.{◌≡◌, ◌≤◌, length, drop};
 ghost use Rattle.model.specs.Text.{blank};
 ghost use Rattle.chars.specs.Table.{table};

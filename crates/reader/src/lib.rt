@@ -3,6 +3,8 @@
 // A text is read in one pass, token by token, and each node becomes one word of four fields. They are unpacked into the lent tree
 // only when nothing is refused and there is room. The word of an open element holds its parent's node where its size is to stand,
 // so the open elements are a chain, and need no stack.
+#![tactic(auto)]
+
 ghost use Rattle.std.specs.Prelude.{◌≡◌};
 ghost use Rattle.model.specs.Answers.{said, passes};
 ghost use Rattle.model.specs.Calls.{read_said, read_tree};

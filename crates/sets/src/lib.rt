@@ -1,4 +1,6 @@
 // Sets of numbers below 64: all below a number, the complement of a set, and sets of pairs. Every function is total.
+#![tactic(auto)]
+
 ghost use Rattle.std.specs.Prelude.{◌≡◌, min};
 ghost use Rattle.model.specs.Sheet.{mask, bit};
 ghost use Rattle.sets.specs.Sets.{all_below, complement, pair_set};

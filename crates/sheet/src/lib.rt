@@ -1,4 +1,6 @@
 // The sheet check, and a sheet from the bytes of a file: refusal 9 with its place.
+#![tactic(auto)]
+
 ghost use Rattle.std.specs.Prelude.{◌≡◌};
 ghost use Rattle.model.specs.Answers.{said};
 ghost use Rattle.model.specs.Calls.{sheet_said, from_file_said, from_file_sheet};

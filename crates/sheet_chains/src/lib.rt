@@ -1,4 +1,6 @@
 // The index of a sheet, by where its rules begin: the rules with the same key in a chain.
+#![tactic(auto)]
+
 ghost use Rattle.std.specs.Prelude.{◌≡◌, ◌++◌, ◌≤◌, length, drop, replicate};
 ghost use Rattle.model.specs.Answers.{passes, buffer_after};
 ghost use Rattle.model.specs.Index.{sheet_in, index_words};

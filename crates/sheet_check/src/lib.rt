@@ -1,4 +1,6 @@
 // The check of a sheet's words, which notes where each rule begins.
+#![tactic(auto)]
+
 ghost use Rattle.std.specs.Prelude.{◌≡◌, min};
 ghost use Rattle.model.specs.Answers.{said};
 ghost use Rattle.model.specs.Calls.{sheet_said};

@@ -1,4 +1,6 @@
 // A count part of a sheet: number of steps, the steps.
+#![tactic(auto)]
+
 ghost use Rattle.std.specs.Prelude.{◌≡◌, ◌&&◌};
 ghost use Rattle.model.specs.Lists.{numbers};
 ghost use Rattle.model.specs.Sheet.{W, below, small, signed, coefficient, sum, at_most_step, remainder_step, step, steps, all};

@@ -1,4 +1,6 @@
 // The words of a sheet's file: 4 bytes each, lowest first.
+#![tactic(auto)]
+
 ghost use Rattle.std.specs.Prelude.{◌≡◌, ◌++◌, ◌+◌, ◌*◌, ◌<◌, ◌≤◌, length, get_or, take, drop};
 ghost use Rattle.model.specs.Sheet.{file_words};
 

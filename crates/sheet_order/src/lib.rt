@@ -1,4 +1,6 @@
 // An order part of a sheet: number of positions, accepting positions, number of arcs, the arcs.
+#![tactic(auto)]
+
 ghost use Rattle.std.specs.Prelude.{◌≡◌};
 ghost use Rattle.model.specs.Lists.{numbers};
 ghost use Rattle.model.specs.Sheet.{arc_ok, arc, all, order};

@@ -1,4 +1,6 @@
 // The rules of a sheet.
+#![tactic(auto)]
+
 ghost use Rattle.std.specs.Prelude.{◌≡◌};
 ghost use Rattle.model.specs.Lists.{numbers};
 ghost use Rattle.model.specs.Sheet.{rule, all};

@@ -1,11 +1,13 @@
 // A walk over a sheet's words, by index. Each function takes a walk on past a word or two; a walk that has met a bad word
 // stays there, so that one part of a sheet is checked after another with no case for a refusal in between.
+#![tactic(auto)]
+
 ghost use Rattle.std.specs.Prelude.{◌≡◌, ◌^◌, ltb};
 ghost use Rattle.model.specs.Sheet.{W, word, between, below, set_below};
 ghost use Rattle.sheet_walk.specs.Walks.{word_at, after, refused};
 
 // `At` a word, with every word before it in its range; or stopped at the first `Bad` one, which is out of its range or missing.
-#[derive(Drop)]
+#[derive(Clone, Copy)]
 pub enum Walk {
     At(usize),
     Bad(usize),

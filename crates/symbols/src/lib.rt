@@ -1,4 +1,6 @@
 // What a node's symbol says: its first word, a tag's number or one of the two words of texts.
+#![tactic(auto)]
+
 ghost use Rattle.std.specs.Prelude.{◌≡◌, ◌≤◌};
 ghost use Rattle.model.specs.Tree.{of_text, symbol_of};
 ghost use Rattle.symbols.specs.Meaning.{meaning};
@@ -7,7 +9,7 @@ const INTEGER_TEXT: u32 = 65;
 
 const OTHER_TEXT: u32 = 66;
 
-#[derive(Drop)]
+#[derive(Clone, Copy)]
 pub enum Symbol {
     // a tag, by its number
     Tag(u32),

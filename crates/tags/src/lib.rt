@@ -1,4 +1,6 @@
 // The tags of a name list: a table that finds the name of a tag, and the tag of a name.
+#![tactic(auto)]
+
 ghost use Rattle.std.specs.Prelude.{◌≡◌, ◌-◌, ◌<◌};
 ghost use Rattle.tags.specs.Tables.{name_by, bucket, along, found_by, linked};
 

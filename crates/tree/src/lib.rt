@@ -1,4 +1,6 @@
 // The tree check: refusal 10. A tree is nodes in document order, four words each: symbol, size, text start, text length.
+#![tactic(auto)]
+
 ghost use Rattle.std.specs.Prelude.{◌≡◌, false, ◌*◌, ◌≤◌, length};
 ghost use Rattle.model.specs.Answers.{said};
 ghost use Rattle.model.specs.Calls.{tree_said};
@@ -9,7 +11,7 @@ use model::{Answer, Refusal};
 use tree_look::{Seen, is_root, look};
 
 // What the children of a node come to.
-#[derive(Drop)]
+#[derive(Clone, Copy)]
 enum Shape {
     Whole,
     // the first node that breaks a rule

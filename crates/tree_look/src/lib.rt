@@ -1,4 +1,6 @@
 // What stands at a node of a tree: at node 0, and under a parent.
+#![tactic(auto)]
+
 ghost use Rattle.std.specs.Prelude.{◌≡◌, ◌&&◌, ◌*◌, ◌≤◌, eqb, length};
 ghost use Rattle.model.specs.Tree.{tag_symbol, symbol_at, size_at, look};
 ghost use Rattle.tree_look.specs.Looked.{seen};
@@ -7,7 +9,7 @@ use layout::{NODE_WORDS, wide};
 use symbols::{Symbol, symbol_of};
 
 // What stands at a node, under a parent that ends before node `end`.
-#[derive(Drop)]
+#[derive(Clone, Copy)]
 pub enum Seen {
     // nothing more: the parent ends
     End,

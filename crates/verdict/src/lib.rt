@@ -1,4 +1,6 @@
 // What formcheck says of a name list, a sheet's file and a form, and the line that it prints.
+#![tactic(auto)]
+
 ghost use Rattle.std.specs.Prelude.{◌≡◌, List, ◌++◌, ℕ, length, drop};
 ghost use Rattle.io.specs.Counts.{IsPrefixLen};
 ghost use Rattle.model.specs.Answers.{said_judgement, passes};

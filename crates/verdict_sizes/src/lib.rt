@@ -1,4 +1,6 @@
 // Arrays to read formcheck's files into, each as long as what decides the line.
+#![tactic(auto)]
+
 ghost use Rattle.std.specs.Prelude.{◌≡◌, replicate};
 ghost use Rattle.verdict_sizes.specs.Sizes.{names_bytes, sheet_bytes, form_bytes};
 

@@ -1,4 +1,6 @@
 // Bytes put into a buffer: each function puts bytes into `out` from `at` on, and gives the index after them.
+#![tactic(auto)]
+
 ghost use Rattle.std.specs.Prelude.{◌+◌, ◌≤◌, length};
 ghost use Rattle.model.specs.Written.{source_bytes};
 ghost use Rattle.write_nodes.specs.Nodes.{span_of};

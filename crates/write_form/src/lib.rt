@@ -1,4 +1,6 @@
 // The form of a tree, put into a buffer.
+#![tactic(auto)]
+
 ghost use Rattle.write_form.specs.Forms.{Ready, Puts};
 
 use symbols::{Symbol, symbol_of};
@@ -7,7 +9,7 @@ use write_nodes::{PerName, name_of, node_at};
 
 // The nodes from `first` up to `end` that are side by side under one parent, where `levels` elements may lie one in another; their form
 // begins at index `at` of the buffer.
-#[derive(Drop)]
+#[derive(Clone, Copy)]
 pub struct Siblings {
     pub levels: u32,
     pub first: usize,

@@ -1,4 +1,6 @@
 // The length of a tree's form, and refusal 11, in one pass over the nodes.
+#![tactic(auto)]
+
 ghost use Rattle.std.specs.Prelude.{◌≡◌, ◌/◌, length};
 ghost use Rattle.model.specs.Answers.{said, answer_of};
 ghost use Rattle.write_nodes.specs.Nodes.{TagOf};
@@ -16,7 +18,7 @@ const EMPTY_MARKS: usize = 3;
 const PAIR_MARKS: usize = 5;
 
 // What a node adds to the form.
-#[derive(Drop)]
+#[derive(Clone, Copy)]
 enum Own {
     // the bytes of its tags, or of its text
     Bytes(usize),

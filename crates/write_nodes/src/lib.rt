@@ -1,4 +1,6 @@
 // The nodes of a tree by their words, and the names of their tags.
+#![tactic(auto)]
+
 ghost use Rattle.std.specs.Prelude.{◌≡◌, ◌+◌, ◌*◌, ◌≤◌, length};
 ghost use Rattle.model.specs.Names.{name_of};
 ghost use Rattle.write_nodes.specs.Nodes.{node_at, Tag};
@@ -9,7 +11,7 @@ use layout::NODE_WORDS;
 pub type PerName = [usize; offsets::MOST_NAMES + 1];
 
 // The four words of a node.
-#[derive(Drop)]
+#[derive(Clone, Copy)]
 pub struct Node {
     pub symbol: u32,
     pub size: u32,

@@ -1,4 +1,6 @@
 // Refusal 11: text words that are wrong.
+#![tactic(auto)]
+
 ghost use Rattle.std.specs.Prelude.{◌≡◌};
 ghost use Rattle.model.specs.Written.{trimmed_text, good_text};
 ghost use Rattle.write_nodes.specs.Nodes.{span_of};

@@ -1,4 +1,6 @@
 // Writing a tree as a form: refusals 8, 1, 10, 11, 24 and 22, in that order, and then the bytes.
+#![tactic(auto)]
+
 ghost use Rattle.std.specs.Prelude.{◌≡◌};
 ghost use Rattle.model.specs.Answers.{said};
 ghost use Rattle.model.specs.Calls.{write_said, write_out};

@@ -1,0 +1,9 @@
+-- `sheet_walk::any_word` meets its contract.
+use mathlib.Core.Path.{refl}
+use native.Mathlib.Omega.{arith}
+use Rattle.sheet_walk.proofs.WalkLaws.{tested}
+use Rattle.sheet_walk.proofs.WordTests.{any}
+use Rattle.sheet_walk.proofs.any_word.Goals as goal
+
+pub returns : goal.returns
+returns c = tested _ _ _ refl (any _ (λ i. omega (arith, c.shared_slice_known-1.given i)) _) c.pass.ensures
