@@ -10,7 +10,7 @@ use Rattle.page.proofs.repeat_each.Goals as goal
 
 pub loop-i-init : goal.loop-i-init
 loop-i-init c = let a = c.args in
-    begun (ap (repeated_each _) (slice_cut a.words.now a.from a.to c.end_within-end.ensures.0))
+    begun (ap (repeated_each _) (slice_cut a.words.now a.from a.to c.end_within-end.ensures.is))
 
 pub loop-i-preserved : goal.loop-i-preserved
 loop-i-preserved c = more c.loop-i.invariant (each_next _ (slice_next _ _ _ c.loop-i-test.true (omega arith))) c.repeat_word-next.ensures

@@ -6,7 +6,6 @@ use Rattle.sheet_walk.proofs.WalkLaws.{stays}
 use Rattle.sheet_walk.proofs.pass.Goals as goal
 
 pub returns-in_default : goal.returns-in_default
-unfolding after left_at word
 returns-in_default c = stays _ _ c.in_default.is
 
 pub returns-then-i-words : goal.returns-then-i-words
