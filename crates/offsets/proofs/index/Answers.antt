@@ -1,0 +1,36 @@
+-- `offsets::index` meets its contract: what is left to write, from line k on, completes the index.
+use mathlib.Core.Path.{refl}
+use Prim.Native.Nat.{◌-◌}
+use native.Mathlib.Nat.{sub-zero}
+use native.Mathlib.Omega.{arith}
+use borrow.Author.Rules.{rules}
+use Rattle.offsets.proofs.LineLaws.{line_cut, begins-first, begins-some, begins_none, begins-next}
+use Rattle.offsets.proofs.IndexLaws.{write-next, write-last}
+use Rattle.offsets.proofs.index.Goals as goal
+
+pub loop-k-init : goal.loop-k-init
+loop-k-init c = (omega arith, begins-first _, rw sub-zero, refl)
+
+pub returns-then-list-at-clause-lines : goal.returns-then-list-at-clause-lines
+returns-then-list-at-clause-lines c = let top = c.loop-k.invariant in (write-last _ _ _ _ _ _ top.1 top.2 c.put.ensures
+    (omega (arith, begins_none _ _ _ top.1 c.if-list-at.true))).0
+
+pub returns-then-list-at-clause-starts : goal.returns-then-list-at-clause-starts
+returns-then-list-at-clause-starts c = let top = c.loop-k.invariant in (write-last _ _ _ _ _ _ top.1 top.2 c.put.ensures
+    (omega (arith, begins_none _ _ _ top.1 c.if-list-at.true))).1
+
+pub loop-k-preserved : goal.loop-k-preserved
+loop-k-preserved c = let top = c.loop-k.invariant in
+    let more = c.if-list-at.false in (
+      omega arith,
+      begins-next _ _ _ top.1 _ (line_cut _ _ _ more c.line_end-at.ensures),
+      write-next _ _ _ _ _ _ top.1 top.2 c.put.ensures
+          (omega (arith, begins-some _ _ _ top.1 more)),
+      search rules,
+    )
+
+pub returns-clause-lines : goal.returns-clause-lines
+returns-clause-lines c = let top = c.loop-k.invariant in (write-last _ _ _ _ _ _ top.1 top.2 c.put-2.ensures (omega arith)).0
+
+pub returns-clause-starts : goal.returns-clause-starts
+returns-clause-starts c = let top = c.loop-k.invariant in (write-last _ _ _ _ _ _ top.1 top.2 c.put-2.ensures (omega arith)).1

@@ -1,0 +1,5 @@
+-- `tree_look::is_root` meets its contract.
+use Rattle.tree_look.proofs.is_root.Goals as goal
+
+pub returns : goal.returns
+returns c = rw (c.is_tag.ensures, c.wide.ensures)
