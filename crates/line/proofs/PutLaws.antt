@@ -1,9 +1,9 @@
 -- Bytes put into a buffer, one run after another.
 use mathlib.Core.Path.{◌≡◌, refl, sym, ap, ◌∙◌}
-use mathlib.Core.List.{List, ◌++◌, append_assoc}
+use mathlib.Core.List.{List, [], ◌++◌, append_assoc, append-nil}
 use Prim.Native.Nat.{ℕ, ◌+◌, ◌-◌, ◌≤◌}
 use native.Mathlib.Omega.{arith}
-use lib.ListN.{length, take, drop, length-append, length-drop, take-append-drop}
+use lib.ListN.{length, take, drop, length-append, length-drop, take-append-drop, drop_of_length-le}
 use lib.Seq.{length-take-le, take-length, take_at, drop_at, drop-append-le, drop-drop}
 use Rattle.io.specs.Counts.{IsPrefixLen}
 use Rattle.model.specs.declared.Refusal.{Refusal}
@@ -15,7 +15,7 @@ use Rattle.answers.specs.Numbers.{first_of, second_of, Tells}
 use Rattle.line.specs.Puts.{Put, pair_line}
 
 -- a run copied to the front of the part of a buffer that begins at `at`
-pub put_copied : (l run : List ℕ) (at k : ℕ) {ys : List ℕ} {n : ℕ} → at + length run ≤ length l → k ≡ length l - at → n ≡ length run
+pub put_copied : (l run : List ℕ) (at k : ℕ) {ys : List ℕ} {n : ℕ} → at + k ≤ length l → length run ≤ k → n ≡ length run
     → ys ≡ take (length run) run ++ drop (length run) (take k (drop at l)) → Put l at run (at + n) (take at l ++ (ys ++ drop k (drop at l)))
 put_copied l run at k {ys} {n} room part count e =
     let mid = take k (drop at l) in
@@ -33,6 +33,16 @@ put_copied l run at k {ys} {n} room part count e =
       front = rw all (take_at (take at l ++ run) _ (at + n) before);
       rest = rw all (drop_at (take at l ++ run) _ (at + n) before ∙ tail);
     }
+
+-- a run in place of as many bytes of a buffer
+pub put_over : (l run : List ℕ) (at k : ℕ) {ys : List ℕ} → at + length run ≤ length l → k ≡ length run → ys ≡ run
+    → Put l at run (at + length run) (take at l ++ (ys ++ drop k (drop at l)))
+put_over l run at k {ys} room size e =
+    let none : drop (length run) (take k (drop at l)) ≡ [] =
+    drop_of_length-le (take k (drop at l)) {i = length run}
+    (omega (arith, length-take-le k (drop at l) (omega (arith, length-drop at l)))) in
+    put_copied l run at k (omega arith) (omega arith) refl
+    (e ∙ sym (rw (take-length run, none) (append-nil run)))
 
 -- one run after another is one run
 pub put_then : {l m n xs ys : List ℕ} {at o p : ℕ} → Put l at xs o m → Put m o ys p n → Put l at (xs ++ ys) p n

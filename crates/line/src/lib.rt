@@ -23,7 +23,9 @@ fn put(out: &mut [u8], at: usize, run: &[u8]) -> usize
     requires { at + length run.now ≤ length out.old }
     ensures { Put out.old at run.now result out.new }
 {
-    at + bytes::copy(run, &mut out[at..])
+    let end = at + run.len();
+    out[at..end].copy_from_slice(run);
+    end
 }
 
 // One space and a number in decimal.
