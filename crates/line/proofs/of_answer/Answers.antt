@@ -14,8 +14,10 @@ error-requires c = search rules
 
 pub returns-in-Count : goal.returns-in-Count
 unfolding said
-returns-in-Count c = rw c.in-Count.is (put_front c.count.ensures)
+returns-in-Count c =
+    let p = put_front c.count.ensures in rw c.in-Count.is (record { bytes = p.0; out = p.1.0; within = p.1.1 })
 
 pub returns-in-Error : goal.returns-in-Error
 unfolding said
-returns-in-Error c = rw c.in-Error.is (put_front c.error.ensures)
+returns-in-Error c =
+    let p = put_front c.error.ensures in rw c.in-Error.is (record { bytes = p.0; out = p.1.0; within = p.1.1 })

@@ -23,16 +23,20 @@ error-requires c = search rules
 
 pub returns-in-Accepted : goal.returns-in-Accepted
 unfolding said_judgement line_of bytes
-returns-in-Accepted c = rw c.in-Accepted.is (put_front c.pair.ensures)
+returns-in-Accepted c =
+    let p = put_front c.pair.ensures in rw c.in-Accepted.is (record { bytes = p.0; out = p.1.0; within = p.1.1 })
 
 pub returns-in-Refused : goal.returns-in-Refused
 unfolding said_judgement line_of bytes
-returns-in-Refused c = rw c.in-Refused.is (put_front c.pair-in-Refused.ensures)
+returns-in-Refused c =
+    let p = put_front c.pair-in-Refused.ensures in rw c.in-Refused.is (record { bytes = p.0; out = p.1.0; within = p.1.1 })
 
 pub returns-in-Stuck : goal.returns-in-Stuck
 unfolding said_judgement line_of bytes
-returns-in-Stuck c = rw c.in-Stuck.is (put_front c.pair-in-Stuck.ensures)
+returns-in-Stuck c =
+    let p = put_front c.pair-in-Stuck.ensures in rw c.in-Stuck.is (record { bytes = p.0; out = p.1.0; within = p.1.1 })
 
 pub returns-in-Error : goal.returns-in-Error
 unfolding said_judgement line_of bytes
-returns-in-Error c = rw c.in-Error.is (put_front c.error.ensures)
+returns-in-Error c =
+    let p = put_front c.error.ensures in rw c.in-Error.is (record { bytes = p.0; out = p.1.0; within = p.1.1 })
