@@ -3,16 +3,37 @@
 
 ghost use Rattle.io.specs.Counts.{IsPrefixLen};
 
+use std::fs;
+use std::io::Read;
+use std::rt::Files;
+
 // Reads the front of a file, as much as the buffer holds, and gives its number of bytes. A missing file is empty. No promise can
 // speak of what a file holds.
-pub fn front(path: &[u8], buffer: &mut [u8]) -> usize
+pub fn front<R: Files>(rt: &R, path: &[u8], buffer: &mut [u8]) -> usize
     ensures { IsPrefixLen result buffer.new }
 {
-    let file = os::open_read(path);
-    if file < 0 {
+    let Ok(path) = str::from_utf8(path) else {
         return 0;
+    };
+    match fs::open(rt, path) {
+        Ok(mut file) => read_full(&mut file, buffer),
+        Err(_) => 0,
     }
-    let n = io::read_full(file, buffer);
-    libc::close(file);
-    n
+}
+
+// Reads until the buffer is full, the input ends or a read fails, and gives the number of bytes read.
+fn read_full<F: Read>(file: &mut F, buffer: &mut [u8]) -> usize
+    ensures { IsPrefixLen result buffer.new }
+{
+    let mut done = 0;
+    while done < buffer.len() {
+        let Ok(n) = file.read(&mut buffer[done..]) else {
+            return done;
+        };
+        if n == 0 {
+            return done;
+        }
+        done += n;
+    }
+    done
 }
