@@ -6,6 +6,7 @@ use cases_store::store::{STORE_WORDS, Store, define, part, push_words, word_at};
 use cases_values::calls::{BYTES_ROOM, room_of};
 use cases_values::contents::content;
 use cases_values::values::{Values, value_of};
+use std::rt::Files;
 
 // ---- cases
 
@@ -49,14 +50,14 @@ fn by_values(line: &[u8], words: &mut Store, from: usize, v: Values) -> usize {
 }
 
 // Prints the line that begins at an index, with the answer where it is a case; the new top of the store.
-fn line(line: &[u8], words: &mut Store, from: usize, top: usize) -> usize {
+fn line<R: Files>(rt: &R, line: &[u8], words: &mut Store, from: usize, top: usize) -> usize {
     let b = byte_at(line, from);
     if (b == b'\n') | (b == b'#') {
         cases_print::line(line, from);
         return top;
     }
     let at = named_at(line, from);
-    let v = content(line, words, from, at, top);
+    let v = content(rt, line, words, from, at, top);
     let end = by_values(line, words, from, v);
     if end == STORE_WORDS {
         cases_print::unreadable_line(line, from);
@@ -68,12 +69,12 @@ fn line(line: &[u8], words: &mut Store, from: usize, top: usize) -> usize {
     define(words, top, end, from)
 }
 
-pub(crate) fn all(text: &[u8], words: &mut Store) {
+pub(crate) fn all<R: Files>(rt: &R, text: &[u8], words: &mut Store) {
     let mut from = 0;
     let mut top = 0;
     while from < text.len() {
         let end = line_end(text, from);
-        top = line(bytes_of(text, 0, end), words, from, top);
+        top = line(rt, bytes_of(text, 0, end), words, from, top);
         if end <= from {
             return;
         }

@@ -19,9 +19,9 @@ fn input_array() -> [u8; INPUT_BYTES]
     [0; INPUT_BYTES]
 }
 
-fn main() {
+fn main(rt: HostRuntime) {
     let mut text = input_array();
     let mut words = [0u32; STORE_WORDS];
     let n = io::read_full(STDIN, &mut text);
-    lines::all(&text[..n], &mut words);
+    lines::all(&rt, &text[..n], &mut words);
 }

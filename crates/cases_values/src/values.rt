@@ -5,6 +5,7 @@ use cases_store::buffers::no_bytes;
 use cases_store::store::{
     STORE_WORDS, Store, find, part, push, push_again, push_bytes, repeat, stored,
 };
+use std::rt::Files;
 
 // where no group is open
 const NONE: usize = 0xFFFF_FFFF;
@@ -142,9 +143,9 @@ fn named(line: &[u8], words: &mut Store, v: Values, word: &[u8]) -> usize {
 }
 
 // The bytes of a file, whose name is after the first byte of a word.
-fn file(words: &mut Store, top: usize, word: &[u8]) -> usize {
+fn file<R: Files>(rt: &R, words: &mut Store, top: usize, word: &[u8]) -> usize {
     let mut bytes = no_bytes();
-    let n = files::front(bytes_of(word, 1, word.len()), &mut bytes);
+    let n = files::front(rt, bytes_of(word, 1, word.len()), &mut bytes);
     push_bytes(words, top, bytes_of(&bytes, 0, n))
 }
 
@@ -159,7 +160,14 @@ fn number(words: &mut Store, v: Values, first: u8, n: u32) -> usize {
 }
 
 // What is complete before an index of the line.
-fn complete(line: &[u8], words: &mut Store, x: Lexer, v: Values, i: usize) -> usize {
+fn complete<R: Files>(
+    rt: &R,
+    line: &[u8],
+    words: &mut Store,
+    x: Lexer,
+    v: Values,
+    i: usize,
+) -> usize {
     if !x.ready {
         return v.top;
     }
@@ -168,7 +176,7 @@ fn complete(line: &[u8], words: &mut Store, x: Lexer, v: Values, i: usize) -> us
         return named(line, words, v, item);
     }
     if x.first == b'@' {
-        return file(words, v.top, item);
+        return file(rt, words, v.top, item);
     }
     number(words, v, x.first, x.word())
 }
@@ -176,7 +184,13 @@ fn complete(line: &[u8], words: &mut Store, x: Lexer, v: Values, i: usize) -> us
 // ---- values
 
 // The values from an index of a line on, put on top of the store, which is full where they can't be read.
-pub fn read_values(line: &[u8], words: &mut Store, at: usize, top: usize) -> Values {
+pub fn read_values<R: Files>(
+    rt: &R,
+    line: &[u8],
+    words: &mut Store,
+    at: usize,
+    top: usize,
+) -> Values {
     let mut x = Lexer::new();
     let mut v = Values::new(top);
     let mut i = at;
@@ -184,7 +198,7 @@ pub fn read_values(line: &[u8], words: &mut Store, at: usize, top: usize) -> Val
         let after = i + 1;
         let b = byte_at(line, i);
         let next = go_on(x, b);
-        let top = complete(line, words, next, v, i);
+        let top = complete(rt, line, words, next, v, i);
         v.top = top;
         x = begin(next, b, i);
         v = v.begun(x.mark, i);
