@@ -1,0 +1,26 @@
+-- `tags::name_of` meets its contract.
+use mathlib.Core.Path.{sym, ◌∙◌}
+use native.Mathlib.Omega.{arith}
+use Rattle.tags.proofs.TagLaws.{is_tag, name-there, name_none}
+use Rattle.tags.proofs.name_of.Goals as goal
+
+pub returns-then-tag : goal.returns-then-tag
+returns-then-tag c = sym (name_none _ _ _ c.if-tag.true)
+
+pub overflow_sub-tag : goal.overflow_sub-tag
+overflow_sub-tag c = omega (arith, is_tag c.args.tag c.if-tag.false)
+
+pub offset_bounds-table-tag : goal.offset_bounds-table-tag
+offset_bounds-table-tag c = omega (arith, is_tag c.args.tag c.if-tag.false)
+
+pub bounds-table-tag : goal.bounds-table-tag
+bounds-table-tag c = omega (arith, is_tag c.args.tag c.if-tag.false)
+
+pub offset_bounds-table-tag-2 : goal.offset_bounds-table-tag-2
+offset_bounds-table-tag-2 c = omega (arith, is_tag c.args.tag c.if-tag.false)
+
+pub bounds-table-tag-2 : goal.bounds-table-tag-2
+bounds-table-tag-2 c = omega (arith, is_tag c.args.tag c.if-tag.false)
+
+pub returns : goal.returns
+returns c = c.bare.ensures ∙ sym (name-there _ _ _ c.if-tag.false)
