@@ -11,7 +11,8 @@ CLAUSE_OR_BODY = re.compile(r"\b(requires|ensures)\b|[{;]")
 ARRAY_RESULT = re.compile(r"\)\s*->\s*(?=\[)")
 INTERNAL = re.compile(r"# Internal to (\w+)")
 COMMENT = {".rt": re.compile(r"//[^\n]*"), ".antt": re.compile(r"--[^\n]*")}
-PROOFS = re.compile(r"\bproofs\b")
+# a path into proofs of this repository; the library's operations stand in its own, and a tactic's lemmas are no words of a promise
+PROOFS = re.compile(r"\bRattle\.(?!(?:std|core)\b)\w+\.proofs\b")
 DECLARED = re.compile(r"( *)(?:abbrev |unfoldable )?(pub )?(?:data |record )?([^\s:(){}.][^\s:(){}]*(?: [^\s:(){}]+)*?)(?= :|(?: \(.*)? :)")
 SECTION = re.compile(r"( *)module _\b")
 BOUND = re.compile(r"[({]([^:(){}]+?) :")
@@ -53,7 +54,7 @@ def crates():
             internal_to = match and match[1]
         elif line.strip():
             name, needs = line.split(":")
-            found.append(Crate(name.strip(), needs.split(), internal_to))
+            found.append(Crate(name.split()[0], needs.split(), internal_to))
     return found
 
 
