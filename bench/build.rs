@@ -1,4 +1,4 @@
-//! Links the static library of the proved calls, which `rt staticlib capi` writes, and libxml2 where
+//! Links the static library of the proved calls, which `compare/library` writes, and libxml2 where
 //! it is installed.
 
 use std::path::{Path, PathBuf};

@@ -1,7 +1,7 @@
 /*
  * Judges the form of a folder by its names.txt, sheet.bin and form.txt, and prints the verdict, and each node's symbol and state word.
  *
- *     rt staticlib capi
+ *     compare/library
  *     cc -Iinclude examples/check.c target/staticlib/libcapi.a -o target/check
  *     target/check crates/formcheck/data
  */

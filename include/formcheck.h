@@ -21,7 +21,7 @@
  * aligned for its type and has as many elements as is said; and no array that a call writes overlaps another of that call. A call
  * keeps nothing after it returns, uses no heap, and ran in less than 256 KB of stack (measured, not proved).
  *
- * Link target/staticlib/libcapi.a (rt staticlib capi).
+ * Link target/staticlib/libcapi.a (compare/library).
  */
 #ifndef FORMCHECK_H
 #define FORMCHECK_H

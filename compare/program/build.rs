@@ -1,4 +1,4 @@
-//! Links the static library of the proved calls, which `rt staticlib capi` writes, to the program;
+//! Links the static library of the proved calls, which `compare/library` writes, to the program;
 //! the tests of the reference need no library.
 
 use std::path::Path;
