@@ -4,8 +4,7 @@ use mathlib.Core.Bool.{Bool, false, ◌&&◌, and_assoc}
 use mathlib.Core.List.{List}
 use Prim.Native.Nat.{ℕ, suc, ◌/◌, ◌%◌, ◌≤◌}
 use native.Mathlib.Omega.{arith}
-use borrow.Author.Rules.{rules}
-use borrow.Author.Tests.{leb-true, not-true, not-false}
+use borrow.Author.Tests.{leb-true}
 use lib.Dec.{eqb, leb}
 use lib.ListN.{length}
 use Rattle.model.specs.Answers.{count, refusal, said, said_refusal, passes, refuses, ◌>>=◌, ◌>>◌, require, answer_of}
@@ -17,8 +16,7 @@ use Rattle.model.proofs.TreeLaws.{tree_refuses, children_fill}
 use Rattle.tree.specs.Shape.{shape_at}
 use Rattle.tree.specs.declared.Shape.TheVariants.{Whole, Broken}
 use Rattle.tree.proofs.ChildLaws.{whole_inv, broken_inv}
-use Rattle.tree.proofs.check.Statement.{statement}
-use Rattle.tree.proofs.check.Tie as tie
+use Rattle.tree.proofs.check.Goals as goal
 
 -- what is tested of the number of words, and of node 0
 abbrev counted : List ℕ → Bool
@@ -63,24 +61,21 @@ module _ (g : ℕ) (t : List ℕ) where
       let r : tree_of g t ≡ refuses m p = by-children h k ∙ bind_refused _ e in
       rw (r, tree_refuses g t r)
 
--- node 0 stands, by the tests of the code
-root_stands : (c : tie.Else2) → let a = c.before.before.before.before.args in Yes (rooted a.tags a.tree.now)
-root_stands c = not-false _ (rw c.before.is-root.ensures at c.if2.false)
-
-pub check_spec : {M : Type 1} → statement M
+pub returns-then-not-counted : goal.returns-then-not-counted
 unfolding said said_refusal
-check_spec =
-    tie.close
-    (tie.spec
-    (λ c. sym (miscounted _ _ (not-true _ c.if1.true)))
-    (λ c κs. omega (arith, some-node c.before.before.args.tree.now (not-false _ c.if1.false)))
-    (λ c. sym (unrooted _ _ (not-false _ c.before.before.if1.false)
-    (not-true _ (rw c.before.is-root.ensures at c.if2.true))))
-    (λ c. search rules)
-    (λ c κs. search rules)
-    (λ c. search rules)
-    (λ c. search rules)
-    (λ c. sym (whole-said _ _ (not-false _ c.before.before.before.before.before.if1.false)
-    (root_stands c.before.before.before) (sym c.before.before.children.ensures ∙ c.enum_told.given.1)))
-    (λ c. sym (broken-said _ _ (not-false _ c.before.before.before.before.before.before.if1.false)
-    (root_stands c.before.before.before.before) (sym c.before.before.before.children.ensures ∙ c.before.place.given.1))))
+returns-then-not-counted c = sym (miscounted _ _ c.if-not-counted.true)
+
+pub is_root-requires : goal.is_root-requires
+is_root-requires c = omega (arith, some-node c.args.tree.now c.if-not-counted.false)
+
+pub returns-then-not-is_root : goal.returns-then-not-is_root
+unfolding said said_refusal
+returns-then-not-is_root c = sym (unrooted _ _ c.if-not-counted.false (sym c.if-not-is_root.ensures))
+
+pub returns-in-Whole : goal.returns-in-Whole
+unfolding said said_refusal
+returns-in-Whole c = sym (whole-said _ _ c.if-not-counted.false (sym c.if-not-is_root.ensures) (sym c.in-Whole.ensures))
+
+pub returns-in-Broken : goal.returns-in-Broken
+unfolding said said_refusal
+returns-in-Broken c = sym (broken-said _ _ c.if-not-counted.false (sym c.if-not-is_root.ensures) (sym c.in-Broken.ensures))
