@@ -17,7 +17,6 @@ use Rattle.model.specs.Spans.{RuleAt, content, ordered, order_part, count_part}
 use Rattle.model.specs.Index.{key, rules_in, nth}
 use Rattle.model.proofs.PartLaws.{words_part}
 use Rattle.model.proofs.RuleWords.{has-order, no_order, order-end, order_absent, count-stands, after-count, target-there, content-words}
-use Rattle.model.proofs.Tests.{same}
 use Rattle.model.proofs.PassedLaws.{few_words, in_range}
 use Rattle.model.proofs.IndexLaws.{rule-ends, chain_first, chain_next}
 use Rattle.judge_order.specs.Order.{StateWords, states_of, OrderPart, OrderSays}
