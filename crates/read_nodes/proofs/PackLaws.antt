@@ -104,7 +104,8 @@ module _ (l : List ℕ) (i w : ℕ) where
 -- ---- a node written between a document and the node's content
 
 drop_set : (l : List ℕ) (k w : ℕ) → k < length l → drop k (set l k w) ≡ w ∷ drop (suc k) l
-drop_set l k w h = drop-cons (set l k w) k 0 (lt-length-set l k w h) ∙ rw (get_or-set_same l k w 0 h, drop-set-lt (suc k) l k w (omega arith))
+drop_set l k w h =
+    drop-cons (set l k w) k 0 (lt-length-set l k w h) ∙ rw (get_or-set_same l k w 0 h, drop-set-lt (suc k) l k w (omega arith))
 
 -- The element's content, or none of a text, stands behind its node.
 stands_more : {l : List ℕ} {a k n : ℕ} {d : Document} (w : ℕ) (e : Element) (below : Document) → Stands l a k d → Stands l
