@@ -51,8 +51,8 @@ module _ {n : model.Sizes} {p q a b : ℕ} {s t : List ℕ} where
   text_rule (contents o u φ ψ s t) h i e = let (k, q, j) = as_text _ h e in let z : ◌≡◌ {A = ℕ} 0 1 = cc j in absurd (omega arith)
 
   tag_rule : {x y z : Rule} → JointOf n x y z → RuleAt p s a x → RuleAt q t b y → get_or s a 0 ≡ 38
-      → (38 ∷ get_or s (a + 1) 0 ∷ pair n.of_T (get_or s (a + 2) 0) (get_or t (b + 2) 0) ∷ pair n.of_T (get_or s (a + 3) 0) (get_or t (b + 3) 0)
-      ∷ [] ≡ rule_words (of_pairs n) z)
+      → (38 ∷ get_or s (a + 1) 0 ∷ pair n.of_T (get_or s (a + 2) 0) (get_or t (b + 2) 0)
+      ∷ pair n.of_T (get_or s (a + 3) 0) (get_or t (b + 3) 0) ∷ [] ≡ rule_words (of_pairs n) z)
       × TwoStates p q a b s t 2 × TwoStates p q a b s t 3
   unfolding rule_words
   tag_rule (texts k s t) h i e = absurd (omega (arith, (text_key h).0))
