@@ -5,7 +5,7 @@ use Prim.Native.Nat.{ℕ, ◌*◌, ◌≤◌, ◌<◌}
 use native.Mathlib.Omega.{arith}
 use lib.ListN.{length, drop, take}
 use borrow.Author.Tests.{le-leb, lt-leb}
-use Rattle.model.specs.Answers.{count, refusal, said_refusal, said, Checked, passes, refuses, ◌>>=◌, ◌>>◌, require, room_for, answer_of}
+use Rattle.model.specs.Answers.{refusal, said_refusal, said, Checked, passes, refuses, ◌>>=◌, ◌>>◌, require, room_for, answer_of}
 use Rattle.model.specs.Answers.{buffer_after}
 use Rattle.model.specs.Tree.{sizeD}
 use Rattle.model.specs.Names.{names_of}
