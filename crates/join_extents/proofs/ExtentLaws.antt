@@ -13,7 +13,7 @@ use Rattle.model.specs.Lists as lists
 use Rattle.model.specs.Sheet.{Order, Step, Rule, one, two, three, arc_word, order_words, set_words, step_words, count_words, rule_words}
 use Rattle.model.specs.Sheet.{at_most, remainder, not_step, and_step, or_step}
 use Rattle.model.specs.Sheet.{RuleInRange, OrderInRange, CountInRange, IfAny}
-use Rattle.model.specs.Spans.{Content, OrderAt, CountAt, there_is, order_part, count_part}
+use Rattle.model.specs.Spans.{Content, OrderAt, there_is, order_part, count_part}
 use Rattle.model.specs.Index.{sheet_in}
 use Rattle.model.specs.Compose.{Side, S, T, Sizes, of_side, of_other, of_pairs, lift_arc, pair_arc, lift_order, pair_order, joint_order}
 use Rattle.model.specs.Compose.{lift_step, joint_count}

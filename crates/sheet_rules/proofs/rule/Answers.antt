@@ -1,6 +1,7 @@
 -- `sheet_rules::rule` meets its contract.
 use mathlib.Core.Path.{refl}
 use mathlib.Core.List.{[]}
+use native.Mathlib.Omega.{arith}
 use borrow.Author.Tests.{ne_eqb}
 use Rattle.model.specs.Lists.{every}
 use Rattle.model.specs.Sheet.{Order, target, text_rule, tag_rule, order_rule, count_rule, order_count_rule, rule}
@@ -46,5 +47,13 @@ returns-in-56 c = keyed _ _ _ refl c.any_word-fields.ensures c.word_at.ensures c
 pub returns-in_default : goal.returns-in_default
 unfolding every target text_rule tag_rule order_rule count_rule order_count_rule rule
 returns-in_default c =
-    let ((((((_, a), b), d), e), f), g) = c.in_default.in_default-own.rest in
-    keyed _ _ _ refl c.any_word-fields.ensures c.word_at.ensures refl (simp ne_eqb c.refuse.ensures)
+    let m = c.word_at.result in
+    keyed _ _ _ refl c.any_word-fields.ensures c.word_at.ensures refl
+    (rw (
+      ne_eqb m 33 (omega arith),
+      ne_eqb m 38 (omega arith),
+      ne_eqb m 32 (omega arith),
+      ne_eqb m 40 (omega arith),
+      ne_eqb m 48 (omega arith),
+      ne_eqb m 56 (omega arith),
+    ) c.refuse.ensures)
