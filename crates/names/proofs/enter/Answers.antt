@@ -4,9 +4,6 @@ use Rattle.offsets.proofs.IndexLaws.{indexed_cut}
 use Rattle.names.proofs.Checks.{told_unnamed, told_repeated, told_entered}
 use Rattle.names.proofs.enter.Goals as goal
 
-pub named_line-requires-clause-classes_value : goal.named_line-requires-clause-classes_value
-named_line-requires-clause-classes_value c = c.requires.classes_value
-
 pub named_line-requires-clause-le_end : goal.named_line-requires-clause-le_end
 named_line-requires-clause-le_end c =
     let cut = indexed_cut _ _ c.requires.k_bound.1.index _ c.requires.k_bound.0 in

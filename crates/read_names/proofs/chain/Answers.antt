@@ -11,14 +11,12 @@ pub loop-chained-init : goal.loop-chained-init
 loop-chained-init c = (omega arith, c.requires.table_of)
 
 pub loop-chained-preserved : goal.loop-chained-preserved
-loop-chained-preserved c = let made = c.loop-chained.invariant.1 in (
-  omega arith,
-  table_more made (omega arith)
-      (c.bucket.ensures.is ∙ ap bucket
-      (c.name_of-name.ensures ∙ name_is _ _ _ made.index (omega arith) (omega arith)))
-      c.bucket.ensures.within c.link.ensures,
-)
+loop-chained-preserved c =
+    let made = c.loop-chained.invariant.1 in
+    let own = c.name_of-name.ensures ∙ name_is _ _ _ made.index (omega arith) (omega arith) in
+    (omega arith, table_more made (omega arith) (c.bucket.ensures.is ∙ ap bucket own) c.bucket.ensures.within c.link.ensures)
 
 pub returns : goal.returns
-returns c = let e : line_count c.args.list.now ≡ c.loop-chained.chained = omega arith in rw e
-    c.loop-chained.invariant.1
+returns c =
+    let e : line_count c.args.list.now ≡ c.loop-chained.chained = omega arith in
+    rw e c.loop-chained.invariant.1

@@ -14,12 +14,10 @@ pub slice_bounds-same_bytes-end : goal.slice_bounds-same_bytes-end
 slice_bounds-same_bytes-end c = omega (arith, c.requires.at_in_bounds)
 
 pub returns-then-not-same_bytes : goal.returns-then-not-same_bytes
-returns-then-not-same_bytes c = sym (named_else c.args.text.now
-    c.args.at _ c.requires.name_value
-    c.same_bytes.ensures c.if-not-same_bytes.true)
+returns-then-not-same_bytes c =
+    sym (named_else c.args.text.now c.args.at _ c.requires.name_value c.same_bytes.ensures c.if-not-same_bytes.true)
 
 pub returns : goal.returns
-returns c = sym (named_so c.args.text.now
-    c.args.at _
-    c.requires.name_value c.same_bytes.ensures
-    c.if-not-same_bytes.false _ c.class_at-after.ensures)
+returns c =
+    sym (named_so c.args.text.now c.args.at _ c.requires.name_value c.same_bytes.ensures c.if-not-same_bytes.false _
+    c.class_at-after.ensures)

@@ -11,11 +11,7 @@ pub put_node-requires : goal.put_node-requires
 put_node-requires c = omega (arith, c.loop-k.invariant.1.same)
 
 pub loop-k-preserved : goal.loop-k-preserved
-loop-k-preserved c = (
-  omega arith,
-  unpacked_more c.loop-k.invariant.1 (omega arith) (omega arith)
-      c.put_node.ensures,
-)
+loop-k-preserved c = (omega arith, unpacked_more c.loop-k.invariant.1 (omega arith) (omega arith) c.put_node.ensures)
 
 pub shape_of-tree : goal.shape_of-tree
 shape_of-tree c = c.loop-k.invariant.1.same
