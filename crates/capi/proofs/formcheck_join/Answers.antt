@@ -1,15 +1,9 @@
 -- `formcheck_join` meets its contract: the answer of the call, in numbers.
-use Rattle.capi_lent.proofs.LentLaws.{handed_with}
+use Rattle.capi_lent.proofs.LentLaws.{handed}
 use Rattle.capi.proofs.formcheck_join.Goals as goal
 
 pub returns-clause-kind : goal.returns-clause-kind
-returns-clause-kind c = (handed_with c.of_answer.ensures
-    c.join.ensures _ c.hand_over.ensures).0
+returns-clause-kind c = (handed c.of_answer.ensures c.join.ensures.answer c.args.answer.now (c.hand_over.ensures.kind, c.hand_over.ensures.answer)).0
 
 pub returns-clause-answer : goal.returns-clause-answer
-returns-clause-answer c = (handed_with c.of_answer.ensures
-    c.join.ensures _ c.hand_over.ensures).1.0
-
-pub returns-clause-out : goal.returns-clause-out
-returns-clause-out c = (handed_with c.of_answer.ensures
-    c.join.ensures _ c.hand_over.ensures).1.1
+returns-clause-answer c = (handed c.of_answer.ensures c.join.ensures.answer c.args.answer.now (c.hand_over.ensures.kind, c.hand_over.ensures.answer)).1

@@ -4,7 +4,7 @@ use lib.ListN.{length}
 use Rattle.cases.proofs.lines.all.Given as goal
 
 abbrev pub invariant-loop-from : goal.invariant-loop-from
-invariant-loop-from l = 0 ≤ from
+invariant-loop-from g l = 0 ≤ l.from
 
 abbrev pub decreases-loop-from : goal.decreases-loop-from
-decreases-loop-from l = length text - from
+decreases-loop-from g l = length l.text - l.from
