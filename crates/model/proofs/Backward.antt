@@ -18,7 +18,6 @@ use Rattle.model.specs.Text.{State, start, name_at, behind, tag_node, outside, c
 use Rattle.model.specs.Text.{scan, place_number}
 use Rattle.model.specs.Text as text
 use Rattle.model.specs.Grammar.{list_bytes, NameList, no_white, more_white, ElementAt, Form, form}
-use Rattle.model.specs.Grammar as grammar
 use Rattle.model.proofs.Tests.{Yes, same, never}
 use Rattle.model.proofs.CheckLaws.{passes_inj, guarded}
 use Rattle.model.proofs.ByteLaws.{less_is, greater_is, slash_is}

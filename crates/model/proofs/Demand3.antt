@@ -8,13 +8,13 @@ use lib.Dec.{eqb}
 use lib.ListN.{length}
 use borrow.Author.Tests.{eqb-true}
 use Rattle.model.specs.Lists.{◌∈◌}
-use Rattle.model.specs.Answers.{Said, accepted, refusal, Checked, passes, refuses, room_for, looks_in}
-use Rattle.model.specs.Tree.{Element, nodes, size, tree_of}
+use Rattle.model.specs.Answers.{accepted, refusal, Checked, passes, refuses, room_for, looks_in}
+use Rattle.model.specs.Tree.{Element, nodes, size}
 use Rattle.model.specs.Sheet.{Sheet, sheet_of, sheet_words, InRange}
 use Rattle.model.specs.Relation.{Single, GivesTwo, Takes, Accepts}
 use Rattle.model.specs.Compose.{pair, swapped, joint, within_limits}
-use Rattle.model.specs.Calls.{judge_said, swap, in_second, joined, join}
-use Rattle.model.specs.Demands.{Names, Reading, by_rules, by_run, Sheet_on, TakesTo, AcceptsIt, NoTwo}
+use Rattle.model.specs.Calls.{swap, in_second, joined, join}
+use Rattle.model.specs.Demands.{Reading, by_rules, by_run, Sheet_on, TakesTo, AcceptsIt, NoTwo}
 use Rattle.model.proofs.Tests.{Told, yea, nay, told, same, eqb_no}
 use Rattle.model.proofs.CheckLaws.{refuses≢passes, passes_inj, bind_inv, then_inv, required}
 use Rattle.model.proofs.SheetCode.{sheet_passes}

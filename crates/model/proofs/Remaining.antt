@@ -12,7 +12,6 @@ use Rattle.model.specs.Tree.{Element, Document, ε, ◌·◌}
 use Rattle.model.specs.Bytes.{white, less, class_number, is, class_of, less_byte, greater_byte, slash_byte, name_byte}
 use Rattle.model.specs.Names.{tag_of}
 use Rattle.model.specs.Text.{Open, name_at, text_at, trimmed, behind, text_node, tag_node, an_open}
-use Rattle.model.specs.Text as text
 use Rattle.model.specs.Written.{text_byte, solid_byte}
 use Rattle.model.specs.Grammar.{list_bytes, TagOf, NameList, White, no_white, more_white, start_bytes, end_bytes, empty_bytes}
 use Rattle.model.specs.Grammar.{ElementAt, empty, full, ContentAt, TagsAt, no_more, more}

@@ -1,6 +1,5 @@
 -- `chars::kind_of` meets its contract: a byte that is no digit decides.
 use mathlib.Core.Path.{refl, sym, ◌∙◌}
-use Prim.Native.Nat.{◌-◌}
 use borrow.Author.Rules.{rules}
 use Rattle.model.specs.Bytes.{digit_byte, kind_of_text}
 use Rattle.model.proofs.ListLaws.{every_yes, every_no, every-end}

@@ -1,6 +1,5 @@
 -- `judge_order::next_set` meets its contract.
 use mathlib.Core.Path.{◌∙◌}
-use Prim.Native.Nat.{◌-◌}
 use Rattle.judge_order.proofs.OrderLaws.{no_arc, other_arc, one_arc, all-arcs}
 use Rattle.judge_order.proofs.next_set.Goals as goal
 use Rattle.judge_order.proofs.next_set.Goals.{then-arc-state, else-arc-state}
@@ -12,7 +11,7 @@ pub loop-i-preserved : goal.loop-i-preserved
 loop-i-preserved c = let here = c.loop-i-test.true in
     let arc = c.arc_of-arc.ensures in
     elim c.if-arc-state.branch [
-      then-arc-state w ↦
+      | then-arc-state w ↦
           one_arc c.loop-i.invariant here arc w.if-arc-state.true (c.requires _ here) w.has.ensures (w.next-is ∙ w.with_if-next.ensures)
       | else-arc-state w ↦ other_arc c.loop-i.invariant here arc w.if-arc-state.false w.next-is
     ]

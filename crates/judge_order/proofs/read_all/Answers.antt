@@ -1,5 +1,4 @@
 -- `judge_order::read_all` meets its contract.
-use Prim.Native.Nat.{◌-◌}
 use borrow.Author.Rules.{rules}
 use Rattle.judge_order.proofs.OrderLaws.{no_child, one_child, last_child, all-children}
 use Rattle.judge_order.proofs.read_all.Goals as goal

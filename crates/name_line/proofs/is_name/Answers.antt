@@ -1,8 +1,6 @@
 -- `name_line::is_name` meets its contract: past the first byte, a letter, the rest is a name's where it is from i on.
 use mathlib.Core.Path.{sym, ◌∙◌}
-use Prim.Native.Nat.{◌-◌}
 use native.Mathlib.Omega.{arith}
-use Rattle.model.specs.Bytes.{name_byte}
 use Rattle.model.proofs.ListLaws.{every_yes, every_no, every-end}
 use Rattle.name_line.proofs.Names.{name_none, name_no, name_yes}
 use Rattle.name_line.proofs.is_name.Goals as goal

@@ -1,6 +1,5 @@
 -- `offsets::index` meets its contract: what is left to write, from line k on, completes the index.
 use mathlib.Core.Path.{refl}
-use Prim.Native.Nat.{◌-◌}
 use native.Mathlib.Nat.{sub-zero}
 use native.Mathlib.Omega.{arith}
 use borrow.Author.Rules.{rules}

@@ -9,7 +9,8 @@ use Rattle.offsets.proofs.IndexLaws.{starts_from}
 use Rattle.offsets.proofs.index.Given as goal
 
 abbrev pub invariant-loop-k : goal.invariant-loop-k
-invariant-loop-k l = (l.k ≤ 64) × Begins l.list l.k l.at × (sets l.starts l.k (starts_from l.list l.k) ≡ sets l.initial.starts 0 (line_starts l.list)) ×
+invariant-loop-k l =
+    (l.k ≤ 64) × Begins l.list l.k l.at × (sets l.starts l.k (starts_from l.list l.k) ≡ sets l.initial.starts 0 (line_starts l.list)) ×
     (length l.starts ≡ length l.initial.starts)
 
 abbrev pub decreases-loop-k : goal.decreases-loop-k

@@ -1,5 +1,4 @@
 -- `offsets::line_end` meets its contract: what is left of the line, from i on, ends where the whole line ends.
-use Prim.Native.Nat.{◌-◌}
 use native.Mathlib.Omega.{arith}
 use Rattle.offsets.proofs.Scan.{line_fed, line-goes-on, line_none}
 use Rattle.offsets.proofs.line_end.Goals as goal

@@ -1,6 +1,5 @@
 -- `offsets::same_bytes` meets its contract: the lists are the same where they are from i on.
 use mathlib.Core.Path.{sym, ◌∙◌}
-use Prim.Native.Nat.{◌-◌}
 use native.Mathlib.Omega.{arith}
 use Rattle.offsets.proofs.Scan.{same_yes, same_no, same_none, same_length}
 use Rattle.offsets.proofs.same_bytes.Goals as goal

@@ -1,5 +1,4 @@
 -- `copy` meets its contract.
-use Prim.Native.Nat.{◌-◌}
 use Rattle.page.proofs.PageLaws.{begun, more, done, kept, slice_cut, slice_next, slice_none}
 use borrow.Author.Rules.{rules}
 use Rattle.page.proofs.copy.Goals as goal

@@ -1,6 +1,5 @@
 -- `repeat_each` meets its contract.
 use mathlib.Core.Path.{ap}
-use Prim.Native.Nat.{◌-◌}
 use native.Mathlib.Omega.{arith}
 use Rattle.page.specs.Page.{repeated_each}
 use Rattle.model.proofs.PartLaws.{each_next, each_none}

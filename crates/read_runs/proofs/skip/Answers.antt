@@ -1,6 +1,5 @@
 -- `read_runs::skip` meets its contract: the run from i on ends where the run from `at` on does.
 use mathlib.Core.Path.{refl, ◌∙◌}
-use Prim.Native.Nat.{◌-◌}
 use native.Mathlib.Omega.{arith}
 use Rattle.read_runs.proofs.RunLaws.{within_by, run_passes, run_stops, run_ends}
 use Rattle.read_runs.proofs.skip.Goals as goal

@@ -1,6 +1,5 @@
 -- `read_runs::text_end` meets its contract: the run from i on ends where the run from `at` on does.
 use mathlib.Core.Path.{sym, ◌∙◌}
-use Prim.Native.Nat.{◌-◌}
 use native.Mathlib.Omega.{arith}
 use Rattle.model.specs.Written.{text_byte}
 use Rattle.read_runs.proofs.RunLaws.{run_done, run-all}
@@ -28,7 +27,8 @@ returns-then-not-text_block-clause-is c = run_done text_byte c.args.text.now _
     (λ h. c.text_bytes-then-not-text_block.ensures.ended h ∙ c.loop-i.invariant.2)
 
 pub returns-then-not-text_block-clause-within : goal.returns-then-not-text_block-clause-within
-returns-then-not-text_block-clause-within c = (omega (arith, c.text_bytes-then-not-text_block.ensures.within), c.text_bytes-then-not-text_block.ensures.within.1)
+returns-then-not-text_block-clause-within c =
+    (omega (arith, c.text_bytes-then-not-text_block.ensures.within), c.text_bytes-then-not-text_block.ensures.within.1)
 
 pub loop-i-preserved : goal.loop-i-preserved
 loop-i-preserved c = (

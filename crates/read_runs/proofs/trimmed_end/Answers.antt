@@ -1,6 +1,5 @@
 -- `read_runs::trimmed_end` meets its contract: up to `end` and up to `stop` the same is left when it is trimmed.
 use mathlib.Core.Path.{refl, sym, ◌∙◌}
-use Prim.Native.Nat.{◌-◌}
 use native.Mathlib.Omega.{arith}
 use Rattle.read_runs.proofs.RunLaws.{trim_back, trim_stops, trim_none}
 use Rattle.read_runs.proofs.trimmed_end.Goals as goal

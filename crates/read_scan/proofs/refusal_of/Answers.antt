@@ -9,7 +9,11 @@ pub returns-then-number-eq-UNKNOWN_NAME : goal.returns-then-number-eq-UNKNOWN_NA
 returns-then-number-eq-UNKNOWN_NAME c = rw (ne_eqb _ _ c.if-number-eq-FORBIDDEN_BYTE.false, eq-eqb _ _ c.if-number-eq-UNKNOWN_NAME.true)
 
 pub returns-then-number-eq-OTHER_NAME : goal.returns-then-number-eq-OTHER_NAME
-returns-then-number-eq-OTHER_NAME c = rw (ne_eqb _ _ c.if-number-eq-FORBIDDEN_BYTE.false, ne_eqb _ _ c.if-number-eq-UNKNOWN_NAME.false, eq-eqb _ _ c.if-number-eq-OTHER_NAME.true)
+returns-then-number-eq-OTHER_NAME c = rw (
+  ne_eqb _ _ c.if-number-eq-FORBIDDEN_BYTE.false,
+  ne_eqb _ _ c.if-number-eq-UNKNOWN_NAME.false,
+  eq-eqb _ _ c.if-number-eq-OTHER_NAME.true,
+)
 
 pub returns-then-number-eq-TOO_DEEP : goal.returns-then-number-eq-TOO_DEEP
 returns-then-number-eq-TOO_DEEP c = rw (

@@ -1,5 +1,4 @@
 -- `pair_set` meets its contract. The loop's invariant: the set has the rows below i.
-use Prim.Native.Nat.{◌-◌}
 use native.Mathlib.Omega.{arith}
 use Rattle.sets.proofs.SetLaws.{no_columns, many_pairs, no_rows, all_rows, row_room, row_fits, with_row-fits, one_row_more}
 use borrow.Author.Rules.{rules}

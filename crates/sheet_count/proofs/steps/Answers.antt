@@ -1,5 +1,4 @@
 -- `sheet_count::steps` meets its contract.
-use Prim.Native.Nat.{◌-◌}
 use native.Mathlib.Nat.{sub-zero}
 use borrow.Author.Rules.{rules}
 use Rattle.sheet_walk.proofs.WalkLaws.{loop_stopped, loop_more, loop_done}

@@ -7,7 +7,8 @@ use Rattle.sheet_walk.specs.Walks.{after}
 use Rattle.sheet_count.proofs.steps.Given as goal
 
 abbrev pub invariant-loop-i : goal.invariant-loop-i
-invariant-loop-i l = after (all (step l.p) (from (l.n - l.i) l.i)) l.words l.walk ≡ after (all (step l.p) (numbers l.n)) l.words l.initial.walk
+invariant-loop-i l =
+    after (all (step l.p) (from (l.n - l.i) l.i)) l.words l.walk ≡ after (all (step l.p) (numbers l.n)) l.words l.initial.walk
 
 abbrev pub decreases-loop-i : goal.decreases-loop-i
 decreases-loop-i l = l.n - l.i

@@ -1,6 +1,5 @@
 -- `sheet_file::put_words` meets its contract.
 use mathlib.Core.Path.{◌≡◌, refl}
-use Prim.Native.Nat.{◌-◌}
 use native.Mathlib.Omega.{arith}
 use lib.ListN.{length-set}
 use Rattle.sheet_file.proofs.FileWords.{front_more}

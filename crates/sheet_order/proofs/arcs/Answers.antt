@@ -1,5 +1,4 @@
 -- `sheet_order::arcs` meets its contract.
-use Prim.Native.Nat.{◌-◌}
 use native.Mathlib.Nat.{sub-zero}
 use borrow.Author.Rules.{rules}
 use Rattle.model.specs.Sheet.{arc}

@@ -10,7 +10,8 @@ returns-then-word-eq0 c = rw c.if-word-eq0.true
 
 pub returns-then-word-lt-INTEGER_TEXT : goal.returns-then-word-lt-INTEGER_TEXT
 unfolding symbol_of
-returns-then-word-lt-INTEGER_TEXT c = let w = c.args.word in rw (ne_eqb w 65 (omega arith), ne_eqb w 66 (omega arith), ne_eqb w 0 (omega arith))
+returns-then-word-lt-INTEGER_TEXT c =
+    let w = c.args.word in rw (ne_eqb w 65 (omega arith), ne_eqb w 66 (omega arith), ne_eqb w 0 (omega arith))
 
 pub returns-in-65 : goal.returns-in-65
 unfolding symbol_of
