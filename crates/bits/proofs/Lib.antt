@@ -1,5 +1,5 @@
 pub mod BitLaws
 pub mod MemberLaws
 pub mod SetLaws
-pub mod ReachedLaws
+pub mod GistLaws
 mod SignedLaws

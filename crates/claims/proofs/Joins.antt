@@ -1,7 +1,7 @@
 -- Demand 3 of the code: the words that `join` leaves at the front of its buffer are judged by `judge`, beside the two sheets; and those
 -- that `swap` leaves. Of each call its promise alone is used. The sheets S and T may be judged by `judge` too: then `judged_on` makes
 -- them of its promise, and "takes" and "accepts" are read off its answer.
-use mathlib.Core.Path.{◌≡◌, refl}
+use mathlib.Core.Path.{◌≡◌}
 use mathlib.Core.Logic.{◌↔◌}
 use mathlib.Core.List.{List}
 use Prim.Native.Nat.{ℕ, ◌*◌, ◌≤◌, ◌<◌}
@@ -23,7 +23,7 @@ use Rattle.model.proofs.Demand3.{joint-takes-pair, joint_accepts_both, swapped_a
 
 module _ {tree : List ℕ} {e : Element} where
   -- a sheet's words beside a tree, with the answer of `judge` as the verdict
-  pub judged_on : {words states left : List ℕ} {sheet : Sheet} {answer : Judgement} → JudgePromised words tree states answer left
+  unfoldable pub judged_on : {words states left : List ℕ} {sheet : Sheet} {answer : Judgement} → JudgePromised words tree states answer left
       → sheet_of words ≡ passes sheet → tree_of sheet.tags tree ≡ passes e → size e ≤ length states → Sheet_on tree e
   judged_on {words} {states} {left} {sheet} {answer} promise passed over room = record {
     words = words;
@@ -36,58 +36,63 @@ module _ {tree : List ℕ} {e : Element} where
     returned = promise.answer;
   }
 
-  -- `join`, lent S, T and a buffer, counts n words.
+  -- `join`, lent S, T and a buffer, counts n words; `judge`, lent the first n words of what it leaves, the tree and room for the states,
+  -- gives an answer.
   module _ (S T : Sheet_on tree e) {out left : List ℕ} {r : Answer} {n : ℕ}
-      (promised : Promised (join S.words T.words (length out)) out r left) (counted : r ≡ Count n) where
-    -- The first n words of what it leaves pass the sheet check, and are read as the joint sheet.
+      (promised : Promised (join S.words T.words (length out)) out r left) (counted : r ≡ Count n)
+      {states after : List ℕ} {answer : Judgement} (judged : JudgePromised (take n left) tree states answer after)
+      (room : size e ≤ length states) where
+    joins : join S.words T.words (length out) ≡ passes (take n left)
+    joins = front_left promised counted
+
+    -- The words pass the sheet check, and are read as the joint sheet: J is that, with the answer as its verdict.
     pub passed : sheet_of (take n left) ≡ passes (joint S.sheet T.sheet)
-    passed = (join_passes S.words T.words (length out) S.passed T.passed (front_left promised counted)).1
+    passed = (join_passes S.words T.words (length out) S.passed T.passed joins).1
 
-    -- `judge`, lent these words, the tree and room for the states, makes a J of them, with its answer as the verdict.
-    pub joint_judged : {states after : List ℕ} {answer : Judgement} → JudgePromised (take n left) tree states answer after
-        → size e ≤ length states → (J : Sheet_on tree e) × (J.words ≡ take n left) × (J.verdict ≡ said_judgement answer)
-    unfolding judged_on joint
-    joint_judged judged room = (judged_on judged passed S.over room, refl, refl)
+    pub J : Sheet_on tree e
+    unfolding joint
+    J = judged_on judged passed S.over room
 
-    -- J is these words beside the tree, with a verdict.
-    module _ (J : Sheet_on tree e) (its_words : J.words ≡ take n left) where
-      joins : join S.words T.words (length out) ≡ passes J.words
-      joins = rw its_words (front_left promised counted)
+    -- The looks in the answer are at most 2 × n × rules of S × rules of T.
+    pub looks : looks_in (said_judgement answer) ≤ 2 * size e * (length S.sheet.rules * length T.sheet.rules)
+    unfolding J judged_on
+    looks = joint_looks S T J (length out) joins
 
-      -- The looks in the verdict are at most 2 × n × rules of S × rules of T.
-      pub looks : looks_in J.verdict ≤ 2 * size e * (length S.sheet.rules * length T.sheet.rules)
-      looks = joint_looks S T J (length out) joins
+    -- on a form on which neither gives two outcomes
+    module _ (a b : Reading) (S_one : NoTwo a S) (T_one : NoTwo b T) where
+      -- The joint sheet doesn't either.
+      pub gives_no_two : (w : Reading) → NoTwo w J
+      unfolding J judged_on
+      gives_no_two = joint-gives_no_two S T J (length out) joins a b S_one T_one
 
-      -- on a form on which neither gives two outcomes
-      module _ (a b : Reading) (S_one : NoTwo a S) (T_one : NoTwo b T) where
-        -- The joint sheet doesn't either.
-        pub gives_no_two : (w : Reading) → NoTwo w J
-        gives_no_two = joint-gives_no_two S T J (length out) joins a b S_one T_one
+      -- It takes the form to the pair (q, r), r being a state of T, exactly when S takes it to q and T to r.
+      pub takes-pair : (u v w : Reading) (q r : ℕ) → ((r < T.sheet.states) × TakesTo w J (pair T.sheet.states q r)) ↔
+          (TakesTo u S q × TakesTo v T r)
+      unfolding J judged_on
+      takes-pair = joint-takes-pair S T J (length out) joins a b S_one T_one
 
-        -- It takes the form to the pair (q, r), r being a state of T, exactly when S takes it to q and T to r.
-        pub takes-pair : (u v w : Reading) (q r : ℕ) → ((r < T.sheet.states) × TakesTo w J (pair T.sheet.states q r)) ↔
-            (TakesTo u S q × TakesTo v T r)
-        takes-pair = joint-takes-pair S T J (length out) joins a b S_one T_one
+      -- It accepts exactly when both accept.
+      pub accepts_both : (u v w : Reading) → AcceptsIt w J ↔ (AcceptsIt u S × AcceptsIt v T)
+      unfolding J judged_on
+      accepts_both = joint_accepts_both S T J (length out) joins a b S_one T_one
 
-        -- It accepts exactly when both accept.
-        pub accepts_both : (u v w : Reading) → AcceptsIt w J ↔ (AcceptsIt u S × AcceptsIt v T)
-        accepts_both = joint_accepts_both S T J (length out) joins a b S_one T_one
-
-  -- `swap`, lent S and a buffer, counts n words.
+  -- `swap`, lent S and a buffer, counts n words; `judge`, lent the first n words of what it leaves, gives an answer.
   module _ (S : Sheet_on tree e) {out left : List ℕ} {r : Answer} {n : ℕ} (turned : Promised (swap S.words (length out)) out r left)
-      (counted : r ≡ Count n) where
-    -- `judge`, lent the first n words of what it leaves, the tree and room for the states, makes a W of them.
-    pub swapped_judged : {states after : List ℕ} {answer : Judgement} → JudgePromised (take n left) tree states answer after
-        → size e ≤ length states → (W : Sheet_on tree e) × (W.words ≡ take n left) × (W.verdict ≡ said_judgement answer)
-    unfolding judged_on swapped
-    swapped_judged judged room =
-        let reads = (swap_passes S.words (length out) S.passed (front_left turned counted)).1 in
-        (judged_on judged reads S.over room, refl, refl)
+      (counted : r ≡ Count n)
+      {states after : List ℕ} {answer : Judgement} (judged : JudgePromised (take n left) tree states answer after)
+      (room : size e ≤ length states) where
+    swaps : swap S.words (length out) ≡ passes (take n left)
+    swaps = front_left turned counted
 
-    -- W, these words beside the tree, accepts exactly what the sheet takes to a state that isn't final.
-    pub accepts_rest : (W : Sheet_on tree e) → W.words ≡ take n left
-        → (u w : Reading) → AcceptsIt w W ↔ ((q : ℕ) × TakesTo u S q × (q ∈ S.sheet.final → ⊥))
-    accepts_rest W its_words = swapped_accepts_rest S W (length out) (rw its_words (front_left turned counted))
+    -- W is the swapped sheet as these words, with the answer as its verdict.
+    pub W : Sheet_on tree e
+    unfolding swapped
+    W = judged_on judged (swap_passes S.words (length out) S.passed swaps).1 S.over room
+
+    -- It accepts exactly what the sheet takes to a state that isn't final.
+    pub accepts_rest : (u w : Reading) → AcceptsIt w W ↔ ((q : ℕ) × TakesTo u S q × (q ∈ S.sheet.final → ⊥))
+    unfolding W judged_on
+    accepts_rest = swapped_accepts_rest S W (length out) swaps
 
 -- ---- what isn't refused is written
 

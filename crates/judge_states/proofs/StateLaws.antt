@@ -21,7 +21,7 @@ use Rattle.model.proofs.Tests.{or_right, eqb-false}
 use Rattle.model.proofs.SetWords.{members_set}
 use Rattle.bits.specs.Stands.{Stands}
 use Rattle.bits.proofs.SetLaws.{stands_none, stands-some, members_stand, words_stand}
-use Rattle.bits.proofs.ReachedLaws.{reached_just, reached_several}
+use Rattle.bits.proofs.GistLaws.{gist_just, gist_several}
 use Rattle.judge_states.specs.States.{WordOf}
 
 -- ---- the state word of a set
@@ -45,14 +45,14 @@ module _ {targets rest : ℕ} (others : members 64 rest ≡ drop 1 (members 64 t
   word_several n =
       let (x, xs, e) = stands-some (members_stand fits) n in
       let two : 1 < length (members 64 targets) = omega (arith, length-drop 1 (members 64 targets), ap length (sym others ∙ e)) in
-      record { says = λ l s. rw (reached_several s (omega arith) (omega arith)) }
+      record { says = λ l s. rw (gist_several s (omega arith) (omega arith)) }
 
   pub word_one : targets < 2 ^ 64 → targets ≢ 0 → rest ≡ 0 → {low : ℕ} → low ≡ get_or (members 64 targets) 0 64 → WordOf targets (low + 1)
   word_one small n z {low} lowest =
       let (x, xs, e) = stands-some (members_stand small) n in
       let none = ap length (sym others ∙ stands_none (members_stand fits) z) in
       let one : length (members 64 targets) ≡ 1 = omega (arith, length-drop 1 (members 64 targets), ap length e) in
-      record { says = λ l s. rw (reached_just s one, ← lowest) (add-one low, omega (arith, low_small small n lowest)) }
+      record { says = λ l s. rw (gist_just s one, ← lowest) (add-one low, omega (arith, low_small small n lowest)) }
 
 -- ---- all state words 0
 

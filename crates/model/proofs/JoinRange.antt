@@ -19,7 +19,7 @@ use Rattle.model.specs.Sheet.{marks, small, ArcInRange, OrderInRange, SumInRange
 use Rattle.model.specs.Sheet.{RuleInRange, InRange}
 use Rattle.model.specs.Compose.{pair, Side, S, T, half, Sizes, of_other, lift_arc, lift_order, pair_arc, pair_order, joint_order}
 use Rattle.model.specs.Compose.{coefficient_of, lift_sum, lift_step, joint_count, pair_rule, joint_rules, sizes, joint, positions_of}
-use Rattle.model.specs.Compose.{arcs_of, steps_of, within_limits, InLimits, of_side, of_pairs}
+use Rattle.model.specs.Compose.{arcs_of, steps_of, within_limits, Limits, of_side, of_pairs}
 use Rattle.model.proofs.Tests.{Yes, never, same, eqb_like}
 use Rattle.model.proofs.ListLaws.{every-∈, ∈-every, only_eq, each-∈, length-each, map-append, numbers-<, grid-∈, asc_filter}
 use Rattle.model.proofs.ListLaws.{asc_grid, has_no, map_each, length-only}
@@ -36,11 +36,11 @@ all-at-most f k l = (
   λ h. ∈-every (λ r. leb (f r) k) l (λ r m. tests.le-leb (f r) k (h r m)),
 )
 
-pub limits_inv : (j : Sheet) → (within_limits j ≡ passes tt) ↔ InLimits j
+pub limits_inv : (j : Sheet) → (within_limits j ≡ passes tt) ↔ Limits j
 unfolding within_limits
 limits_inv j = (there, back)
   where
-    there : within_limits j ≡ passes tt → InLimits j
+    there : within_limits j ≡ passes tt → Limits j
     there h =
         let (a, h₁) = (required _ _ _ _).0 h in
         let (b, h₂) = (required _ _ _ _).0 h₁ in
@@ -56,7 +56,7 @@ limits_inv j = (there, back)
           words = tests.leb-true _ _ ((require-is _ _ _).0 h₅);
         }
 
-    back : InLimits j → within_limits j ≡ passes tt
+    back : Limits j → within_limits j ≡ passes tt
     back l =
         let f = (require-is _ 21 6).1 (tests.le-leb _ _ l.words) in
         let e = (required _ 21 5 _).1 ((all-at-most steps_of 32 j.rules).1 l.steps, f) in

@@ -21,33 +21,33 @@ use Rattle.model.proofs.WordLaws.{order-fits, count_fits}
 
 -- ---- a list of states, by its reached
 
-abbrev pub AmountsTo : List ℕ → Reached → Type 0
-AmountsTo l nothing = (q : ℕ) → q ∈ l → ⊥
-AmountsTo l (just q) = (q ∈ l) × ((r : ℕ) → r ∈ l → r ≡ q)
-AmountsTo l several = (q r : ℕ) × (q ∈ l) × (r ∈ l) × (q ≢ r)
+abbrev pub Gist : List ℕ → Reached → Type 0
+Gist l nothing = (q : ℕ) → q ∈ l → ⊥
+Gist l (just q) = (q ∈ l) × ((r : ℕ) → r ∈ l → r ≡ q)
+Gist l several = (q r : ℕ) × (q ∈ l) × (r ∈ l) × (q ≢ r)
 
-reached-add : (q : ℕ) (l : List ℕ) (g : Reached) → AmountsTo l g → AmountsTo (q ∷ l) (and_also q g)
+gist-add : (q : ℕ) (l : List ℕ) (g : Reached) → Gist l g → Gist (q ∷ l) (and_also q g)
 unfolding and_also
-reached-add q l nothing f = (Memᴰ.head refl, λ r m. go r (Memᴰ.cases_cons m))
+gist-add q l nothing f = (Memᴰ.head refl, λ r m. go r (Memᴰ.cases_cons m))
   where
     go : (r : ℕ) → (r ≡ q) ⊎ (r ∈ l) → r ≡ q
     go r (inl e) = e
     go r (inr m) = absurd (f r m)
-reached-add q l (just r) (m, f) = go (eqb q r) refl
+gist-add q l (just r) (m, f) = go (eqb q r) refl
   where
-    go : (b : Bool) → eqb q r ≡ b → AmountsTo (q ∷ l) (if_same b r)
+    go : (b : Bool) → eqb q r ≡ b → Gist (q ∷ l) (if_same b r)
     go true e = (Memᴰ.tail m, λ x n. at x (Memᴰ.cases_cons n))
       where
         at : (x : ℕ) → (x ≡ q) ⊎ (x ∈ l) → x ≡ r
         at x (inl i) = i ∙ same q r e
         at x (inr n) = f x n
     go false e = (q, r, Memᴰ.head refl, Memᴰ.tail m, eqb_no e)
-reached-add q l several (r, s, m, n, d) = (r, s, Memᴰ.tail m, Memᴰ.tail n, d)
+gist-add q l several (r, s, m, n, d) = (r, s, Memᴰ.tail m, Memᴰ.tail n, d)
 
-pub reached-is : (l : List ℕ) → AmountsTo l (gist l)
+pub gist-is : (l : List ℕ) → Gist l (gist l)
 unfolding gist
-reached-is [] = λ q m. Memᴰ.not-nil m
-reached-is (q ∷ l) = reached-add q l (gist l) (reached-is l)
+gist-is [] = λ q m. Memᴰ.not-nil m
+gist-is (q ∷ l) = gist-add q l (gist l) (gist-is l)
 
 -- ---- lists in which no node reaches two states
 
@@ -202,10 +202,10 @@ Says R f nothing = NoState R f
 Says R f (just q) = To R f q × AtMostOne R f
 Says R f several = ReachesTwo R f
 
-pub reached-says : {R : List Rule} {f : Element} (l : List ℕ) → ((q : ℕ) → (q ∈ l) ↔ To R f q) → Says R f (gist l)
-reached-says {R} {f} l reaches = go (gist l) (reached-is l)
+pub gist-says : {R : List Rule} {f : Element} (l : List ℕ) → ((q : ℕ) → (q ∈ l) ↔ To R f q) → Says R f (gist l)
+gist-says {R} {f} l reaches = go (gist l) (gist-is l)
   where
-    go : (g : Reached) → AmountsTo l g → Says R f g
+    go : (g : Reached) → Gist l g → Says R f g
     go nothing n = λ q h. n q ((reaches q).1 h)
     go (just q) (m, u) = ((reaches q).0 m, λ p r h k. u p ((reaches p).1 h) ∙ sym (u r ((reaches r).1 k)))
     go several (q, r, m, n, d) = (q, r, (reaches q).0 m, (reaches r).0 n, d)

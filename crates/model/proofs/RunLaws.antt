@@ -20,7 +20,7 @@ use Rattle.model.specs.Relation.{Highest}
 use Rattle.model.specs.Run.{text_targets, element_targets, of_kind, element_looks, Reached, nothing, just, several, gist, Item}
 use Rattle.model.specs.Run.{items, child_words, child_states, Ran, ran, two_at, put, judge_text, judge_element, judge_node, run}
 use Rattle.model.proofs.ListLaws.{map-append}
-use Rattle.model.proofs.Outcome.{single_nil, single_cons, cons_inv, text_reaches, ContentSays, element_reaches, Says, reached-says}
+use Rattle.model.proofs.Outcome.{single_nil, single_cons, cons_inv, text_reaches, ContentSays, element_reaches, Says, gist-says}
 use Rattle.model.proofs.TreeLaws.{length-nodes, length-nodesD}
 use Rattle.model.proofs.Places.{highest_here, highest_later}
 use Rattle.model.proofs.Looks.{kinds, element_looks_≤}
@@ -170,7 +170,7 @@ module _ (R : List Rule) where
   put_judged : (n looks m : ℕ) (f : Element) {l : List Element} {st : List ℕ} (targets : List ℕ) → ((q : ℕ) → (q ∈ targets) ↔ To R f q)
       → Single R l → StatesOf R l st → looks + m + of_kind 3 R * n ≤ 2 * suc (length l) * length R → Judged n (f ∷ l)
       (put (gist targets) looks st m)
-  put_judged n looks m f {l} {st} targets reaches s t b = go (gist targets) (reached-says targets reaches)
+  put_judged n looks m f {l} {st} targets reaches s t b = go (gist targets) (gist-says targets reaches)
     where
       go : (g : Reached) → Says R f g → Judged n (f ∷ l) (put g looks st m)
       go nothing h = (single_cons (λ q r i _. absurd (h q i)) s, a_word {s = zero} h t, b)

@@ -173,7 +173,7 @@ within_limits j = do
   require (leb (length (sheet_words j)) 16384) 21 6
 
 -- these limits as ranges: at most 64 states, 1,024 rules and 16,384 words; in each rule at most 64 positions, 1,024 arcs and 32 steps
-pub record InLimits (j : Sheet) : Type 0 where
+pub record Limits (j : Sheet) : Type 0 where
   pub states : j.states ≤ 64
   pub rules : length j.rules ≤ 1024
   pub positions : (r : Rule) → r ∈ j.rules → positions_of r ≤ 64
