@@ -41,3 +41,6 @@ module _ (list : List ℕ) (end : ℕ) (name : List ℕ) where
     pub line-closed : get_or list (end - 1) 0 ≡ 10 → named_line list end name ≡ is_name name
     unfolding named_line
     line-closed e = rw (le-leb _ _ short, eq-eqb _ _ e)
+
+-- a line by its length and its last byte
+pub ruleset line_laws = (line-long, line_open, line-closed)

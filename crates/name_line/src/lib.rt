@@ -12,6 +12,7 @@ const LINE_FEED: u8 = 10;
 const LONGEST_NAME: usize = 24;
 
 // Whether a line is a name of at most 24 bytes and a line feed. It ends at an offset of the list, and without its last byte it is `name`.
+#[tactic(auto, using(crate::proofs::Names::line_laws))]
 pub fn named_line(classes: &[u8; 256], list: &[u8], end: usize, name: &[u8]) -> bool
     requires classes_value { classes.now ≡ table }
     requires le_end { (1 ≤ end) × (end ≤ length list.now) }
