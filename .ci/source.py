@@ -12,7 +12,7 @@ ARRAY_RESULT = re.compile(r"\)\s*->\s*(?=\[)")
 INTERNAL = re.compile(r"# Internal to (\w+)")
 COMMENT = {".rt": re.compile(r"//[^\n]*"), ".antt": re.compile(r"--[^\n]*")}
 # a path into proofs of this repository; the library's operations stand in its own, and a tactic's lemmas are no words of a promise
-PROOFS = re.compile(r"\bRattle\.(?!(?:std|core)\b)\w+\.proofs\b")
+PROOFS = re.compile(r"^(?!\s*#!?\[tactic\b).*(?:\bRattle\.(?!(?:std|core)\b)\w+\.|\bcrate::)proofs\b")
 DECLARED = re.compile(r"( *)(?:abbrev |unfoldable )?(pub )?(?:data |record )?([^\s:(){}.][^\s:(){}]*(?: [^\s:(){}]+)*?)(?= :|(?: \(.*)? :)")
 SECTION = re.compile(r"( *)module _\b")
 BOUND = re.compile(r"[({]([^:(){}]+?) :")

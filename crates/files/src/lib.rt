@@ -7,8 +7,8 @@ use std::fs;
 use std::io::Read;
 use std::rt::Files;
 
-// Reads the front of a file, as much as the buffer holds, and gives its number of bytes. A missing file is empty. No promise can
-// speak of what a file holds.
+// Reads the front of a file, as much as the buffer holds, and gives its number of bytes. A missing file is empty, and so is
+// one whose path isn't UTF-8. No promise can speak of what a file holds.
 pub fn front<R: Files>(rt: &R, path: &[u8], buffer: &mut [u8]) -> usize
     ensures { IsPrefixLen result buffer.new }
 {
