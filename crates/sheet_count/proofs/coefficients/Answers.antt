@@ -26,12 +26,12 @@ pub returns-then-not-coefficient_good : goal.returns-then-not-coefficient_good
 unfolding coefficient
 returns-then-not-coefficient_good c = rw c.in-At.is
     (loop_bad _ _ _ _ _ _ c.loop-i.invariant c.loop-i-test.true
-    (then-last _ _ _ _ (word_bad _ _ _ c.if-at-words.false c.coefficient_good.ensures c.if-not-coefficient_good.true-raw)))
+    (then-last _ _ _ _ (word_bad _ _ _ c.if-at-words.false c.coefficient_good.ensures (rw c.if-not-coefficient_good.true))))
 
 pub loop-i-preserved : goal.loop-i-preserved
 unfolding coefficient
 loop-i-preserved c = loop_more _ _ _ _ _ _ c.loop-i.invariant c.loop-i-test.true
-    (then-last _ _ _ _ (word_good _ _ _ c.if-at-words.false c.coefficient_good.ensures c.if-not-coefficient_good.false-raw))
+    (then-last _ _ _ _ (word_good _ _ _ c.if-at-words.false c.coefficient_good.ensures (rw c.if-not-coefficient_good.false)))
 
 pub returns : goal.returns
 unfolding coefficient

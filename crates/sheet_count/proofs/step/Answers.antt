@@ -1,5 +1,6 @@
 -- `sheet_count::step` meets its contract.
 use mathlib.Core.Path.{refl}
+use native.Mathlib.Omega.{arith}
 use borrow.Author.Rules.{rules}
 use borrow.Author.Tests.{ne_eqb}
 use Rattle.model.specs.Lists.{every}
@@ -74,5 +75,13 @@ returns-in-5 c = keyed _ _ _ refl c.any_word-fields.ensures c.word_at.ensures c.
 
 pub returns-in_default : goal.returns-in_default
 unfolding every step one_earlier two_earlier
-returns-in_default c = let (((((_, a), b), d), e), f) = c.in_default.in_default-own.rest in
-    keyed _ _ _ refl c.any_word-fields.ensures c.word_at.ensures refl (simp ne_eqb c.refuse.ensures)
+returns-in_default c =
+    let m = c.word_at.result in
+    keyed _ _ _ refl c.any_word-fields.ensures c.word_at.ensures refl
+    (rw (
+      ne_eqb m 1 (omega arith),
+      ne_eqb m 2 (omega arith),
+      ne_eqb m 3 (omega arith),
+      ne_eqb m 4 (omega arith),
+      ne_eqb m 5 (omega arith),
+    ) c.refuse.ensures)

@@ -26,12 +26,12 @@ pub returns-then-not-arc_good : goal.returns-then-not-arc_good
 unfolding arc
 returns-then-not-arc_good c = rw c.in-At.is
     (loop_bad _ _ _ _ _ _ c.loop-i.invariant c.loop-i-test.true
-    (then-last _ _ _ _ (word_bad _ _ _ c.if-at-words.false c.arc_good.ensures c.if-not-arc_good.true-raw)))
+    (then-last _ _ _ _ (word_bad _ _ _ c.if-at-words.false c.arc_good.ensures (rw c.if-not-arc_good.true))))
 
 pub loop-i-preserved : goal.loop-i-preserved
 unfolding arc
 loop-i-preserved c = loop_more _ _ _ _ _ _ c.loop-i.invariant c.loop-i-test.true
-    (then-last _ _ _ _ (word_good _ _ _ c.if-at-words.false c.arc_good.ensures c.if-not-arc_good.false-raw))
+    (then-last _ _ _ _ (word_good _ _ _ c.if-at-words.false c.arc_good.ensures (rw c.if-not-arc_good.false)))
 
 pub returns : goal.returns
 unfolding arc

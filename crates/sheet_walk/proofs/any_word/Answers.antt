@@ -6,4 +6,4 @@ use Rattle.sheet_walk.proofs.WordTests.{any}
 use Rattle.sheet_walk.proofs.any_word.Goals as goal
 
 pub returns : goal.returns
-returns c = tested _ _ _ refl (any _ (λ i. omega (arith, c.shared_slice_known-1.given i)) _) c.pass.ensures
+returns c = tested _ _ _ refl (any _ (λ i. omega (arith, c.type_inv.words i)) _) c.pass.ensures

@@ -12,7 +12,7 @@ unfolding look
 returns-then-end-i c = rw (le-leb _ _ c.if-end-i.true)
 
 pub overflow_add-next : goal.overflow_add-next
-overflow_add-next c = omega (arith, c.shared_slice_known-2-1.given (4 * c.args.i + 1))
+overflow_add-next c = omega (arith, c.type_inv.tree (4 * c.args.i + 1))
 
 pub returns-then-size-after_text : goal.returns-then-size-after_text
 returns-then-size-after_text c = text_looked _ _ _ _ _ _ c.if-end-i.false
