@@ -1,34 +1,25 @@
 -- What is said, as three numbers: a kind and two values.
-use Rattle.std.specs.Prelude.{◌≡◌, ℕ}
+use Rattle.std.specs.Prelude.{ℕ}
 use Rattle.model.specs.Answers.{Said, count, accepted, refused, stuck, refusal}
+use Rattle.answers.specs.declared.Kind.{Kind}
+use Rattle.answers.specs.declared.Kind.TheVariants.{Count, Accepted, Refused, Stuck, Error}
 use Rattle.answers.specs.declared.Numbers.{Numbers}
 
 -- the kinds: 0 a count, 1 accepted, 2 refused, 3 stuck, 4 an error
+abbrev pub kind_number : Kind → ℕ
+kind_number Count = 0
+kind_number Accepted = 1
+kind_number Refused = 2
+kind_number Stuck = 3
+kind_number Error = 4
+
+-- of a count the number and 0, of a verdict the state or node and the looks, of an error the refusal's number and place
+abbrev pub numbers_of : Said → Numbers
+numbers_of (count n) = record { kind = Count; first = n; second = 0 }
+numbers_of (accepted q m) = record { kind = Accepted; first = q; second = m }
+numbers_of (refused q m) = record { kind = Refused; first = q; second = m }
+numbers_of (stuck i m) = record { kind = Stuck; first = i; second = m }
+numbers_of (refusal number place) = record { kind = Error; first = number; second = place }
+
 abbrev pub kind_of : Said → ℕ
-kind_of (count n) = 0
-kind_of (accepted q m) = 1
-kind_of (refused q m) = 2
-kind_of (stuck i m) = 3
-kind_of (refusal number place) = 4
-
--- the count, the state, the node, or the refusal's number
-abbrev pub first_of : Said → ℕ
-first_of (count n) = n
-first_of (accepted q m) = q
-first_of (refused q m) = q
-first_of (stuck i m) = i
-first_of (refusal number place) = number
-
--- nothing more of a count, the looks, or the refusal's place
-abbrev pub second_of : Said → ℕ
-second_of (count n) = 0
-second_of (accepted q m) = m
-second_of (refused q m) = m
-second_of (stuck i m) = m
-second_of (refusal number place) = place
-
--- the numbers are those of what is said
-pub record Tells (r : Numbers) (s : Said) : Type 0 where
-  pub kind : r.kind ≡ kind_of s
-  pub first : r.first ≡ first_of s
-  pub second : r.second ≡ second_of s
+kind_of s = kind_number (numbers_of s).kind

@@ -1,102 +1,124 @@
 // Answers as numbers: for C, and for programs that print them.
 #![tactic(auto)]
 
-ghost use Rattle.model.specs.Answers.{refusal, said_refusal, said, said_judgement};
-ghost use Rattle.answers.specs.Numbers.{Tells};
+ghost use Rattle.std.specs.Prelude.{◌≡◌};
+ghost use Rattle.model.specs.Answers.{said, said_judgement, said_refusal, said_verdict};
+ghost use Rattle.answers.specs.Numbers.{kind_number, numbers_of};
 
-use model::{Answer, Judgement, Refusal};
-
-// the kinds of answers
-const COUNT: u32 = 0;
-
-const ACCEPTED: u32 = 1;
-
-const REFUSED: u32 = 2;
-
-const STUCK: u32 = 3;
-
-const ERROR: u32 = 4;
+use model::{Refusal, Verdict};
 
 // the place of refusal 1
 const TEXT_END: usize = 65535;
+
+// The kinds of answers, with their numbers in C.
+#[derive(Clone, Copy, PartialEq, Eq)]
+pub enum Kind {
+    Count = 0,
+    Accepted = 1,
+    Refused = 2,
+    Stuck = 3,
+    Error = 4,
+}
+
+impl From<Kind> for u32 {
+    ghost from_gives = { λ kind number. number ≡ kind_number kind };
+
+    // The number of a kind.
+    fn from(kind: Kind) -> u32 {
+        kind as u32
+    }
+}
 
 // The kind of an answer and its two values: of a count the number and 0, of a verdict the state or node and the looks, of an error
 // the refusal's number and place.
 #[derive(Clone, Copy)]
 pub struct Numbers {
-    pub kind: u32,
+    pub kind: Kind,
     pub first: u64,
     pub second: u64,
 }
 
-fn error(number: u64, place: usize) -> Numbers
-    ensures { Tells result (refusal number place) }
-{
-    Numbers {
-        kind: ERROR,
-        first: number,
-        second: place as u64,
+impl From<Refusal> for Numbers {
+    ghost from_gives = { λ refusal numbers. numbers ≡ numbers_of (said_refusal refusal) };
+
+    // A refusal by its number and place.
+    fn from(refusal: Refusal) -> Numbers {
+        let (number, place) = match refusal {
+            Refusal::LongText => (1, TEXT_END),
+            Refusal::ForbiddenByte(i) => (2, i),
+            Refusal::Syntax(i) => (3, i),
+            Refusal::UnknownName(i) => (4, i),
+            Refusal::OtherName(i) => (5, i),
+            Refusal::Depth(i) => (6, i),
+            Refusal::ManyNodes(i) => (7, i),
+            Refusal::NameList(i) => (8, i),
+            Refusal::Sheet(i) => (9, i),
+            Refusal::Tree(i) => (10, i),
+            Refusal::TextWords(i) => (11, i),
+            Refusal::TagCounts(g) => (20, g),
+            Refusal::JointLimit(k) => (21, k),
+            Refusal::ShortBuffer(n) => (22, n),
+            Refusal::TwoStates(i) => (23, i),
+            Refusal::LongForm(n) => (24, n),
+        };
+        Numbers {
+            kind: Kind::Error,
+            first: number,
+            second: place as u64,
+        }
     }
 }
 
-// A refusal by its number and place.
-pub fn of_refusal(refusal: Refusal) -> Numbers
-    ensures { Tells result (said_refusal refusal) }
-{
-    match refusal {
-        Refusal::LongText => error(1, TEXT_END),
-        Refusal::ForbiddenByte(i) => error(2, i),
-        Refusal::Syntax(i) => error(3, i),
-        Refusal::UnknownName(i) => error(4, i),
-        Refusal::OtherName(i) => error(5, i),
-        Refusal::Depth(i) => error(6, i),
-        Refusal::ManyNodes(i) => error(7, i),
-        Refusal::NameList(i) => error(8, i),
-        Refusal::Sheet(i) => error(9, i),
-        Refusal::Tree(i) => error(10, i),
-        Refusal::TextWords(i) => error(11, i),
-        Refusal::TagCounts(g) => error(20, g),
-        Refusal::JointLimit(k) => error(21, k),
-        Refusal::ShortBuffer(n) => error(22, n),
-        Refusal::TwoStates(i) => error(23, i),
-        Refusal::LongForm(n) => error(24, n),
+impl From<Verdict> for Numbers {
+    ghost from_gives = { λ verdict numbers. numbers ≡ numbers_of (said_verdict verdict) };
+
+    // The state or the node, and the looks.
+    fn from(verdict: Verdict) -> Numbers {
+        let (kind, first, second) = match verdict {
+            Verdict::Accepted { state, looks } => (
+                Kind::Accepted,
+                u64::from(state),
+                u64::from(looks),
+            ),
+            Verdict::Refused { state, looks } => (
+                Kind::Refused,
+                u64::from(state),
+                u64::from(looks),
+            ),
+            Verdict::Stuck { node, looks } => (Kind::Stuck, node as u64, u64::from(looks)),
+        };
+        Numbers {
+            kind,
+            first,
+            second,
+        }
     }
 }
 
-// A count, or a refusal.
-pub fn of_answer(answer: Answer) -> Numbers
-    ensures { Tells result (said answer) }
-{
-    match answer {
-        Answer::Count(n) => Numbers {
-            kind: COUNT,
-            first: n as u64,
-            second: 0,
-        },
-        Answer::Error(refusal) => of_refusal(refusal),
+impl From<Result<usize, Refusal>> for Numbers {
+    ghost from_gives = { λ answer numbers. numbers ≡ numbers_of (said answer) };
+
+    // A count, or a refusal.
+    fn from(answer: Result<usize, Refusal>) -> Numbers {
+        match answer {
+            Ok(n) => Numbers {
+                kind: Kind::Count,
+                first: n as u64,
+                second: 0,
+            },
+            Err(refusal) => Numbers::from(refusal),
+        }
     }
 }
 
-// A verdict, or a refusal.
-pub fn of_judgement(judgement: Judgement) -> Numbers
-    ensures { Tells result (said_judgement judgement) }
-{
-    match judgement {
-        Judgement::Accepted(state, looks) => Numbers {
-            kind: ACCEPTED,
-            first: state as u64,
-            second: looks as u64,
-        },
-        Judgement::Refused(state, looks) => Numbers {
-            kind: REFUSED,
-            first: state as u64,
-            second: looks as u64,
-        },
-        Judgement::Stuck(node, looks) => Numbers {
-            kind: STUCK,
-            first: node as u64,
-            second: looks as u64,
-        },
-        Judgement::Error(refusal) => of_refusal(refusal),
+impl From<Result<Verdict, Refusal>> for Numbers {
+    ghost from_gives = { λ judgement numbers. numbers ≡ numbers_of (said_judgement judgement) };
+
+    // A verdict, or a refusal.
+    fn from(judgement: Result<Verdict, Refusal>) -> Numbers {
+        match judgement {
+            Ok(verdict) => Numbers::from(verdict),
+            Err(refusal) => Numbers::from(refusal),
+        }
     }
 }

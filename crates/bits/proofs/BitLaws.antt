@@ -1,17 +1,18 @@
 -- Bits of a number: those of its half, of 0, of a power of 2, and what the machine's shifts, ands and ors make of them.
 use mathlib.Core.Path.{◌≡◌, refl, sym, ap, ◌∙◌}
-use mathlib.Core.Bool.{Bool, true, false, ◌&&◌, ◌||◌, or-false}
-use Prim.Native.Nat.{ℕ, zero, suc, ◌+◌, ◌*◌, ◌/◌, ◌%◌, ◌^◌, ◌≤◌, ◌<◌}
-use native.Mathlib.Nat.{zero-div, mod-lt, div-one, pow-suc, mul-div_cancel, mul-mod_left, one-mul, add_comm, lt_of_lt_of_le, div-eq_of_lt}
+use mathlib.Core.Bool.{Bool, true, false, cond, ◌&&◌, ◌||◌, or-false}
+use Prim.Native.Nat.{ℕ, zero, suc, ◌*◌, ◌/◌, ◌%◌, ◌^◌, ◌≤◌, ◌<◌}
+use native.Mathlib.Nat.{zero-div, mod-lt, div-one, pow-suc, mul-div_cancel, mul-mod_left, lt_of_lt_of_le, div-eq_of_lt}
 use native.Mathlib.Numerals.{one-add}
 use native.Mathlib.Omega.{arith}
 use lib.Arith.{bin_ind}
-use lib.Bits.{bit_and, bit_or, or_shr, or_mod, or_lt, and_shr, and_mod, and_mask, or_shifted}
-use lib.Dec.{eqb, ltb, eqb-zero-suc, eqb-suc-zero, eqb-suc-suc, lit<, lit≤}
-use lib.Pow.{shr-shr, shl_exact, pow_mono, pow-lt}
+use lib.Bits.{bit_and, bit_or, or_shr, or_mod, or_lt, and_shr, and_mod, and_mask}
+use lib.Dec.{eqb, ltb, eqb-zero-suc, eqb-suc-zero, eqb-suc-suc, lit<}
+use lib.Pow.{shr-shr, pow_mono, pow-lt}
 use borrow.Author.Tests.{ltb-true, ltb-false}
-use Rattle.model.specs.Sheet.{W, bit, mask}
-use Rattle.model.proofs.Tests.{Yes, and_left, and_right, eqb_yes, eqb-false}
+use Rattle.model.specs.Sheet.{bit, mask}
+use Rattle.std.proofs.lemmas.Nat.{one_shl}
+use Rattle.model.proofs.Tests.{Yes, eqb_yes, eqb-false, Told, yea, nay, told}
 use Rattle.model.proofs.SetWords.{has-members, mask-members}
 
 -- ---- one bit
@@ -81,18 +82,28 @@ bit_power (suc q) (suc i) =
     (mul-div_cancel (2 ^ q) (lit< tt)) ∙ bit_power q i
     ∙ sym (eqb-suc-suc i q)
 
--- `(set >> q) & 1 == 1`
-pub shifted_bit : (set q : ℕ) → eqb (bit_and (set / 2 ^ q) 1) 1 ≡ bit set q
+-- `set.unbounded_shr(q) & 1 == 1`
+pub shifted_bit : (set q : ℕ) → set < 2 ^ 64 → eqb (bit_and (cond (ltb q 64) (set / 2 ^ q) 0) 1) 1 ≡ bit set q
 unfolding bit
-shifted_bit set q = ap (λ (x : ℕ). eqb x 1) (and_mask (set / 2 ^ q) 1)
+shifted_bit set q f = rw (whole (told (ltb q 64))) (ap (λ (x : ℕ). eqb x 1) (and_mask (set / 2 ^ q) 1))
+  where
+    whole : Told (ltb q 64) → cond (ltb q 64) (set / 2 ^ q) 0 ≡ set / 2 ^ q
+    whole (yea t) = rw t
+    whole (nay t) = rw t (sym (div-eq_of_lt (lt_of_lt_of_le f (pow_mono (ltb-false q 64 t)))))
 
--- `1 << q`
+-- `1 << q`, and `1u64.unbounded_shl(q)`: its one bit, below 64
 pub shifted_one : (q : ℕ) → q < 64 → (1 * 2 ^ q) % 2 ^ 64 ≡ 2 ^ q
-shifted_one q h = shl_exact 1 q 64 (lit< tt) (omega arith) ∙ one-mul (2 ^ q)
+shifted_one q h = one_shl q 64 h
 
--- `(high << 32) | low`
-pub or-words : (low high : ℕ) → low < W → high < W → bit_or ((high * W) % 2 ^ 64) low ≡ low + high * W
-or-words low high h k = ap (λ (x : ℕ). bit_or x low) (shl_exact 32 32 64 k (lit≤ tt)) ∙ or_shifted high 32 low h ∙ add_comm (high * W) low
+module _ (q : ℕ) where
+  one_bit : (t : Told (ltb q 64)) (i : ℕ) → i < 64 → bit (cond (ltb q 64) ((1 * 2 ^ q) % 2 ^ 64) 0) i ≡ eqb i q
+  one_bit (yea t) i h = rw (t, shifted_one q (ltb-true q 64 t)) (bit_power q i)
+  one_bit (nay t) i h =
+      let over : 64 ≤ q = ltb-false q 64 t in rw t (bit_none i ∙ sym (eqb-false {m = i} {n = q} (λ e. omega arith)))
+
+  one_fits : Told (ltb q 64) → cond (ltb q 64) ((1 * 2 ^ q) % 2 ^ 64) 0 < 2 ^ 64
+  one_fits (yea t) = rw (t, shifted_one q (ltb-true q 64 t)) (pow-lt (ltb-true q 64 t))
+  one_fits (nay t) = rw t (omega arith)
 
 -- ---- masks
 
@@ -105,15 +116,15 @@ mask_like (suc k) f g e = rw (e 0 (omega arith), mask_like k (λ i. f (suc i)) (
 pub mask_bits : (k n : ℕ) (f : ℕ → Bool) → n < 2 ^ k → ((i : ℕ) → i < k → bit n i ≡ f i) → n ≡ mask k f
 mask_bits k n f h e = sym (mask-members k n h) ∙ mask_like k _ f (λ i l. has-members k n i l ∙ e i l)
 
--- a set with q, where a flag holds and q is below 64; any other is left as it is
-module _ (flag : Bool) (set q : ℕ) (f : set < 2 ^ 64) where
-  pub with_bit : Yes (flag && ltb q 64) → bit_or set ((1 * 2 ^ q) % 2 ^ 64) ≡ mask 64 (λ j. bit set j || (flag && eqb j q))
-  with_bit y =
-      let h : q < 64 = ltb-true q 64 (and_right flag (ltb q 64) y) in
-      rw (shifted_one q h)
-      (mask_bits 64 (bit_or set (2 ^ q)) _ (or_lt 64 set (2 ^ q) f (pow-lt h))
-      (λ j l. bit-or set (2 ^ q) j ∙ rw (bit_power q j, and_left flag (ltb q 64) y)))
+-- a set with q, if q is below 64, or as it is
+module _ (set q : ℕ) (f : set < 2 ^ 64) where
+  pub with_bit : bit_or set (cond (ltb q 64) ((1 * 2 ^ q) % 2 ^ 64) 0) ≡ mask 64 (λ j. bit set j || eqb j q)
+  with_bit =
+      let one = cond (ltb q 64) ((1 * 2 ^ q) % 2 ^ 64) 0 in
+      mask_bits 64 (bit_or set one) _ (or_lt 64 set one f (one_fits q (told (ltb q 64))))
+      (λ j l. bit-or set one j ∙ rw (one_bit q (told (ltb q 64)) j l))
 
+module _ (flag : Bool) (set q : ℕ) (f : set < 2 ^ 64) where
   pub without_bit : (flag && ltb q 64) ≡ false → set ≡ mask 64 (λ j. bit set j || (flag && eqb j q))
   without_bit n = mask_bits 64 set _ f (λ j l. sym (ap (λ b. bit set j || b) (go j l flag n) ∙ or-false (bit set j)))
     where

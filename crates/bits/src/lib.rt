@@ -5,42 +5,32 @@ ghost use Rattle.std.specs.Prelude.{◌≡◌, cond, ◌&&◌, ◌||◌, ◌+◌
 ghost use Rattle.model.specs.Sheet.{W, bit, mask, members, arc_of, signed};
 ghost use Rattle.model.specs.Words.{meets, remainder_of};
 
-// numbers from here on are in no set
-const LIMIT: u32 = 64;
-
 // the eight bits of a field of an arc word
 const FIELD: u32 = 0xFF;
-
-// the first word of a negative number, in two's complement, and the last, which is that of −1
-const NEGATIVE: u32 = 0x8000_0000;
-
-const MINUS_ONE: u32 = 0xFFFF_FFFF;
 
 // Whether q is a member.
 pub fn has(set: u64, q: u32) -> bool
     ensures { result ≡ bit set q }
 {
-    if q < LIMIT {
-        return (set >> q) & 1 == 1;
-    }
-    false
+    set.unbounded_shr(q) & 1 == 1
 }
 
 // The set with q, where the flag holds and q is below 64.
 pub fn with_if(flag: bool, set: u64, q: u32) -> u64
     ensures { result ≡ mask 64 (λ j. bit set j || (flag && eqb j q)) }
 {
-    if flag & (q < LIMIT) {
-        return set | (1u64 << q);
+    if flag {
+        set | 1u64.unbounded_shl(q)
+    } else {
+        set
     }
-    set
 }
 
 // The set whose low and high 32 bits stand in two words.
 pub fn of_words(low: u32, high: u32) -> u64
     ensures { result ≡ low + high * W }
 {
-    ((high as u64) << 32) | (low as u64)
+    (u64::from(high) << 32) | u64::from(low)
 }
 
 // Whether two sets have a member in common.
@@ -54,26 +44,24 @@ pub fn meet(a: u64, b: u64) -> bool
 pub fn size(set: u64) -> u32
     ensures { result ≡ length (members 64 set) }
 {
-    u64::count_ones(set)
+    set.count_ones()
 }
 
 // The lowest member, or 64 of the empty set.
 pub fn lowest(set: u64) -> u32
     ensures { result ≡ get_or (members 64 set) 0 64 }
 {
-    u64::trailing_zeros(set)
+    set.trailing_zeros()
 }
 
 // The set without its lowest member.
 pub fn without_lowest(set: u64) -> u64
     ensures { members 64 result ≡ drop 1 (members 64 set) }
 {
-    if set == 0 {
-        return 0;
-    }
-    set & (set - 1)
+    set & set.saturating_sub(1)
 }
 
+// The position that an arc leaves, the state it reads, the position it enters.
 #[derive(Clone, Copy)]
 pub struct Arc {
     pub leaves: u32,
@@ -81,14 +69,17 @@ pub struct Arc {
     pub enters: u32,
 }
 
-// An arc word taken apart: the position it leaves, the state it reads, the position it enters.
-pub fn arc_of(word: u32) -> Arc
-    ensures { (result.leaves ≡ (arc_of word).leaves) × (result.reads ≡ (arc_of word).reads) × (result.enters ≡ (arc_of word).enters) }
-{
-    Arc {
-        leaves: (word >> 16) & FIELD,
-        reads: (word >> 8) & FIELD,
-        enters: word & FIELD,
+impl From<u32> for Arc {
+    ghost from_gives = { λ word arc. (arc.leaves ≡ (arc_of word).leaves) × (arc.reads ≡ (arc_of word).reads)
+        × (arc.enters ≡ (arc_of word).enters) };
+
+    // An arc word taken apart.
+    fn from(word: u32) -> Arc {
+        Arc {
+            leaves: (word >> 16) & FIELD,
+            reads: (word >> 8) & FIELD,
+            enters: word & FIELD,
+        }
     }
 }
 
@@ -96,10 +87,7 @@ pub fn arc_of(word: u32) -> Arc
 pub fn signed(word: u32) -> i32
     ensures { result ≡ signed word }
 {
-    if word < NEGATIVE {
-        return word as i32;
-    }
-    -1 - ((MINUS_ONE - word) as i32)
+    word.cast_signed()
 }
 
 // What a number leaves on division by m, never negative; 0 where m is 0.
@@ -109,10 +97,5 @@ pub fn remainder(z: i32, m: u32) -> u32
     if m == 0 {
         return 0;
     }
-    if z < 0 {
-        // −1 leaves m − 1, −2 one less, and so on
-        let below = (-1 - z) as u32;
-        return m - 1 - below % m;
-    }
-    (z as u32) % m
+    i64::from(z).rem_euclid(i64::from(m)) as u32
 }

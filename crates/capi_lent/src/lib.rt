@@ -2,28 +2,19 @@
 #![tactic(auto)]
 
 ghost use Rattle.std.specs.Prelude.{◌≡◌};
+ghost use Rattle.answers.specs.Numbers.{kind_number};
 ghost use Rattle.capi_lent.specs.Lent.{filled};
 
 use answers::Numbers;
 
-// The numbers to the front of the lent array, and the kind.
+// The numbers to the front of the lent array, as many as it has room for, and the kind.
 pub fn hand_over(numbers: Numbers, answer: &mut [u64]) -> u32
-    ensures kind { result ≡ numbers.kind }
-    ensures answer { answer.new ≡ filled answer.old numbers.kind numbers.first numbers.second }
+    ensures kind { result ≡ kind_number numbers.kind }
+    ensures answer { answer.new ≡ filled answer.old numbers }
 {
-    let kind = numbers.kind;
-    let room = answer.len();
-    if room < 1 {
-        return kind;
-    }
-    answer[0] = kind as u64;
-    if room < 2 {
-        return kind;
-    }
-    answer[1] = numbers.first;
-    if room < 3 {
-        return kind;
-    }
-    answer[2] = numbers.second;
+    let kind = u32::from(numbers.kind);
+    let words = [u64::from(kind), numbers.first, numbers.second];
+    let room = answer.len().min(words.len());
+    answer[..room].copy_from_slice(&words[..room]);
     kind
 }

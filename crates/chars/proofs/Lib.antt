@@ -1,2 +1,2 @@
-pub mod TableLaws
+pub mod ClassLaws
 mod ByteTests

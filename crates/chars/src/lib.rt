@@ -2,33 +2,48 @@
 #![tactic(auto)]
 
 ghost use Rattle.std.specs.Prelude.{◌≡◌};
-ghost use Rattle.model.specs.Bytes.{white, is, class_of, digit_byte, kind_of_text};
+ghost use Rattle.model.specs.Bytes.{white, is, class_of, digit_byte, kind_of_text, text_kind};
 ghost use Rattle.model.specs.Written.{text_byte};
-ghost use Rattle.chars.specs.Table.{table};
+ghost use Rattle.chars.specs.Classes.{meaning, name_class, text_class};
 
-pub const WHITE: u8 = 0;
+use Class::*;
+use model::TextKind;
 
-pub const LETTER: u8 = 1;
+// The class of a byte.
+#[derive(Clone, Copy, PartialEq, Eq)]
+pub enum Class {
+    White,
+    Letter,
+    Digit,
+    Hyphen,
+    Less,
+    Greater,
+    Slash,
+    Other,
+    Forbidden,
+}
 
-pub const DIGIT: u8 = 2;
-
-pub const HYPHEN: u8 = 3;
-
-pub const LESS: u8 = 4;
-
-pub const GREATER: u8 = 5;
-
-pub const SLASH: u8 = 6;
-
-pub const OTHER: u8 = 7;
-
-pub const FORBIDDEN: u8 = 8;
-
-// The table, for a call that looks up many bytes and lends it on: `CLASSES` is set up anew wherever it is read.
-pub fn classes() -> [u8; 256]
-    ensures { result ≡ table }
+// The class of a byte, by the table.
+pub fn class_of(byte: u8) -> Class
+    ensures { meaning result ≡ class_of byte }
 {
-    CLASSES
+    CLASSES[byte as usize]
+}
+
+impl Class {
+    // Whether a name goes on with a byte of the class.
+    pub fn in_name(self) -> bool
+        ensures { result ≡ name_class (meaning self) }
+    {
+        (self == Letter) | (self == Digit) | (self == Hyphen)
+    }
+
+    // Whether a text goes on with it.
+    pub fn in_text(self) -> bool
+        ensures { result ≡ text_class (meaning self) }
+    {
+        (self != Less) & (self != Greater) & (self != Forbidden)
+    }
 }
 
 // ---- by comparisons and not by the table, so that a loop can test many bytes together
@@ -45,18 +60,16 @@ pub fn is_digit(byte: u8) -> bool
     (b'0' <= byte) & (byte <= b'9')
 }
 
-// The kind of a text: 1, an integer, where every byte is a digit, and 2 for any other.
-pub fn kind_of(text: &[u8]) -> u32
-    ensures { result ≡ kind_of_text text.now }
+// The kind of a text: an integer where every byte is a digit.
+pub fn kind_of(text: &[u8]) -> TextKind
+    ensures { text_kind result ≡ kind_of_text text.now }
 {
-    let mut i = 0;
-    while i < text.len() {
-        if !is_digit(text[i]) {
-            return 2;
+    for byte in text {
+        if !is_digit(*byte) {
+            return TextKind::Other;
         }
-        i += 1;
     }
-    1
+    TextKind::Integer
 }
 
 // Whether a text may hold the byte: white, or from ! to ~ but none of & < >.
@@ -73,60 +86,60 @@ pub fn in_text(byte: u8) -> bool
 // ---- the table
 
 // The class of each byte value.
-const CLASSES: [u8; 256] = [
+static CLASSES: [Class; 256] = [
     // 0 to 8
-    FORBIDDEN, FORBIDDEN, FORBIDDEN, FORBIDDEN, FORBIDDEN, FORBIDDEN, FORBIDDEN, FORBIDDEN,
-    FORBIDDEN,
+    Forbidden, Forbidden, Forbidden, Forbidden, Forbidden, Forbidden, Forbidden, Forbidden,
+    Forbidden,
     // tab, line feed
-    WHITE, WHITE,
+    White, White,
     // 11, 12
-    FORBIDDEN, FORBIDDEN, WHITE, // carriage return
+    Forbidden, Forbidden, White, // carriage return
     // 14 to 31
-    FORBIDDEN, FORBIDDEN, FORBIDDEN, FORBIDDEN, FORBIDDEN, FORBIDDEN, FORBIDDEN, FORBIDDEN,
-    FORBIDDEN, FORBIDDEN, FORBIDDEN, FORBIDDEN, FORBIDDEN, FORBIDDEN, FORBIDDEN, FORBIDDEN,
-    FORBIDDEN, FORBIDDEN, WHITE, // space
+    Forbidden, Forbidden, Forbidden, Forbidden, Forbidden, Forbidden, Forbidden, Forbidden,
+    Forbidden, Forbidden, Forbidden, Forbidden, Forbidden, Forbidden, Forbidden, Forbidden,
+    Forbidden, Forbidden, White, // space
     // ! to %
-    OTHER, OTHER, OTHER, OTHER, OTHER, FORBIDDEN, // &
+    Other, Other, Other, Other, Other, Forbidden, // &
     // ' to ,
-    OTHER, OTHER, OTHER, OTHER, OTHER, OTHER, HYPHEN, // -
-    OTHER, // .
-    SLASH, // /
+    Other, Other, Other, Other, Other, Other, Hyphen, // -
+    Other, // .
+    Slash, // /
     // 0 to 9
-    DIGIT, DIGIT, DIGIT, DIGIT, DIGIT, DIGIT, DIGIT, DIGIT, DIGIT, DIGIT,
+    Digit, Digit, Digit, Digit, Digit, Digit, Digit, Digit, Digit, Digit,
     // : ;
-    OTHER, OTHER, LESS, // <
-    OTHER, // =
-    GREATER, // >
+    Other, Other, Less, // <
+    Other, // =
+    Greater, // >
     // ? @
-    OTHER, OTHER,
+    Other, Other,
     // A to Z
-    LETTER, LETTER, LETTER, LETTER, LETTER, LETTER, LETTER, LETTER, LETTER, LETTER, LETTER, LETTER,
-    LETTER, LETTER, LETTER, LETTER, LETTER, LETTER, LETTER, LETTER, LETTER, LETTER, LETTER, LETTER,
-    LETTER, LETTER,
+    Letter, Letter, Letter, Letter, Letter, Letter, Letter, Letter, Letter, Letter, Letter, Letter,
+    Letter, Letter, Letter, Letter, Letter, Letter, Letter, Letter, Letter, Letter, Letter, Letter,
+    Letter, Letter,
     // [ to `
-    OTHER, OTHER, OTHER, OTHER, OTHER, OTHER,
+    Other, Other, Other, Other, Other, Other,
     // a to z
-    LETTER, LETTER, LETTER, LETTER, LETTER, LETTER, LETTER, LETTER, LETTER, LETTER, LETTER, LETTER,
-    LETTER, LETTER, LETTER, LETTER, LETTER, LETTER, LETTER, LETTER, LETTER, LETTER, LETTER, LETTER,
-    LETTER, LETTER,
+    Letter, Letter, Letter, Letter, Letter, Letter, Letter, Letter, Letter, Letter, Letter, Letter,
+    Letter, Letter, Letter, Letter, Letter, Letter, Letter, Letter, Letter, Letter, Letter, Letter,
+    Letter, Letter,
     // { to ~
-    OTHER, OTHER, OTHER, OTHER,
+    Other, Other, Other, Other,
     // 127 to 255
-    FORBIDDEN, FORBIDDEN, FORBIDDEN, FORBIDDEN, FORBIDDEN, FORBIDDEN, FORBIDDEN, FORBIDDEN,
-    FORBIDDEN, FORBIDDEN, FORBIDDEN, FORBIDDEN, FORBIDDEN, FORBIDDEN, FORBIDDEN, FORBIDDEN,
-    FORBIDDEN, FORBIDDEN, FORBIDDEN, FORBIDDEN, FORBIDDEN, FORBIDDEN, FORBIDDEN, FORBIDDEN,
-    FORBIDDEN, FORBIDDEN, FORBIDDEN, FORBIDDEN, FORBIDDEN, FORBIDDEN, FORBIDDEN, FORBIDDEN,
-    FORBIDDEN, FORBIDDEN, FORBIDDEN, FORBIDDEN, FORBIDDEN, FORBIDDEN, FORBIDDEN, FORBIDDEN,
-    FORBIDDEN, FORBIDDEN, FORBIDDEN, FORBIDDEN, FORBIDDEN, FORBIDDEN, FORBIDDEN, FORBIDDEN,
-    FORBIDDEN, FORBIDDEN, FORBIDDEN, FORBIDDEN, FORBIDDEN, FORBIDDEN, FORBIDDEN, FORBIDDEN,
-    FORBIDDEN, FORBIDDEN, FORBIDDEN, FORBIDDEN, FORBIDDEN, FORBIDDEN, FORBIDDEN, FORBIDDEN,
-    FORBIDDEN, FORBIDDEN, FORBIDDEN, FORBIDDEN, FORBIDDEN, FORBIDDEN, FORBIDDEN, FORBIDDEN,
-    FORBIDDEN, FORBIDDEN, FORBIDDEN, FORBIDDEN, FORBIDDEN, FORBIDDEN, FORBIDDEN, FORBIDDEN,
-    FORBIDDEN, FORBIDDEN, FORBIDDEN, FORBIDDEN, FORBIDDEN, FORBIDDEN, FORBIDDEN, FORBIDDEN,
-    FORBIDDEN, FORBIDDEN, FORBIDDEN, FORBIDDEN, FORBIDDEN, FORBIDDEN, FORBIDDEN, FORBIDDEN,
-    FORBIDDEN, FORBIDDEN, FORBIDDEN, FORBIDDEN, FORBIDDEN, FORBIDDEN, FORBIDDEN, FORBIDDEN,
-    FORBIDDEN, FORBIDDEN, FORBIDDEN, FORBIDDEN, FORBIDDEN, FORBIDDEN, FORBIDDEN, FORBIDDEN,
-    FORBIDDEN, FORBIDDEN, FORBIDDEN, FORBIDDEN, FORBIDDEN, FORBIDDEN, FORBIDDEN, FORBIDDEN,
-    FORBIDDEN, FORBIDDEN, FORBIDDEN, FORBIDDEN, FORBIDDEN, FORBIDDEN, FORBIDDEN, FORBIDDEN,
-    FORBIDDEN,
+    Forbidden, Forbidden, Forbidden, Forbidden, Forbidden, Forbidden, Forbidden, Forbidden,
+    Forbidden, Forbidden, Forbidden, Forbidden, Forbidden, Forbidden, Forbidden, Forbidden,
+    Forbidden, Forbidden, Forbidden, Forbidden, Forbidden, Forbidden, Forbidden, Forbidden,
+    Forbidden, Forbidden, Forbidden, Forbidden, Forbidden, Forbidden, Forbidden, Forbidden,
+    Forbidden, Forbidden, Forbidden, Forbidden, Forbidden, Forbidden, Forbidden, Forbidden,
+    Forbidden, Forbidden, Forbidden, Forbidden, Forbidden, Forbidden, Forbidden, Forbidden,
+    Forbidden, Forbidden, Forbidden, Forbidden, Forbidden, Forbidden, Forbidden, Forbidden,
+    Forbidden, Forbidden, Forbidden, Forbidden, Forbidden, Forbidden, Forbidden, Forbidden,
+    Forbidden, Forbidden, Forbidden, Forbidden, Forbidden, Forbidden, Forbidden, Forbidden,
+    Forbidden, Forbidden, Forbidden, Forbidden, Forbidden, Forbidden, Forbidden, Forbidden,
+    Forbidden, Forbidden, Forbidden, Forbidden, Forbidden, Forbidden, Forbidden, Forbidden,
+    Forbidden, Forbidden, Forbidden, Forbidden, Forbidden, Forbidden, Forbidden, Forbidden,
+    Forbidden, Forbidden, Forbidden, Forbidden, Forbidden, Forbidden, Forbidden, Forbidden,
+    Forbidden, Forbidden, Forbidden, Forbidden, Forbidden, Forbidden, Forbidden, Forbidden,
+    Forbidden, Forbidden, Forbidden, Forbidden, Forbidden, Forbidden, Forbidden, Forbidden,
+    Forbidden, Forbidden, Forbidden, Forbidden, Forbidden, Forbidden, Forbidden, Forbidden,
+    Forbidden,
 ];

@@ -6,11 +6,9 @@ use mathlib.Core.Logic.{◌↔◌}
 use mathlib.Core.List.{List}
 use Prim.Native.Nat.{ℕ, ◌*◌, ◌≤◌, ◌<◌}
 use lib.ListN.{length, take}
-use Rattle.model.specs.declared.Answer.{Answer}
-use Rattle.model.specs.declared.Answer.TheVariants.{Count}
-use Rattle.model.specs.declared.Judgement.{Judgement}
+use Rattle.std.specs.Prelude.{Ok}
 use Rattle.model.specs.Lists.{◌∈◌}
-use Rattle.model.specs.Answers.{passes, ◌>>=◌, ◌>>◌, said_judgement, looks_in}
+use Rattle.model.specs.Answers.{Answer, Judgement, passes, ◌>>=◌, ◌>>◌, said_judgement, looks_in}
 use Rattle.model.specs.Tree.{Element, size, tree_of}
 use Rattle.model.specs.Sheet.{Sheet, sheet_of, sheet_words}
 use Rattle.model.specs.Compose.{pair, swapped, joint}
@@ -39,7 +37,7 @@ module _ {tree : List ℕ} {e : Element} where
   -- `join`, lent S, T and a buffer, counts n words; `judge`, lent the first n words of what it leaves, the tree and room for the states,
   -- gives an answer.
   module _ (S T : Sheet_on tree e) {out left : List ℕ} {r : Answer} {n : ℕ}
-      (promised : Promised (join S.words T.words (length out)) out r left) (counted : r ≡ Count n)
+      (promised : Promised (join S.words T.words (length out)) out r left) (counted : r ≡ Ok n)
       {states after : List ℕ} {answer : Judgement} (judged : JudgePromised (take n left) tree states answer after)
       (room : size e ≤ length states) where
     joins : join S.words T.words (length out) ≡ passes (take n left)
@@ -78,7 +76,7 @@ module _ {tree : List ℕ} {e : Element} where
 
   -- `swap`, lent S and a buffer, counts n words; `judge`, lent the first n words of what it leaves, gives an answer.
   module _ (S : Sheet_on tree e) {out left : List ℕ} {r : Answer} {n : ℕ} (turned : Promised (swap S.words (length out)) out r left)
-      (counted : r ≡ Count n)
+      (counted : r ≡ Ok n)
       {states after : List ℕ} {answer : Judgement} (judged : JudgePromised (take n left) tree states answer after)
       (room : size e ≤ length states) where
     swaps : swap S.words (length out) ≡ passes (take n left)
@@ -99,7 +97,7 @@ module _ {tree : List ℕ} {e : Element} where
 -- Sheets that 9, 20 and 21 don't refuse, with room for the words of their joint sheet, are joined: the answer counts these words.
 pub joins_count : (first second : List ℕ) {out left : List ℕ} {r : Answer} {j : Sheet}
     → Promised (join first second (length out)) out r left → joined first second ≡ passes j → length (sheet_words j) ≤ length out
-    → r ≡ Count (length (sheet_words j))
+    → r ≡ Ok (length (sheet_words j))
 unfolding join ◌>>=◌ ◌>>◌
 joins_count first second {out} {r = r} {j} promise within room =
     let fits = room_passes (length (sheet_words j)) (length out) room in
@@ -108,7 +106,7 @@ joins_count first second {out} {r = r} {j} promise within room =
 
 -- A sheet that 9 doesn't refuse, with room, is swapped: the answer counts its words.
 pub swaps_count : (words : List ℕ) {out left : List ℕ} {r : Answer} {s : Sheet} → Promised (swap words (length out)) out r left
-    → sheet_of words ≡ passes s → length (sheet_words (swapped s)) ≤ length out → r ≡ Count (length (sheet_words (swapped s)))
+    → sheet_of words ≡ passes s → length (sheet_words (swapped s)) ≤ length out → r ≡ Ok (length (sheet_words (swapped s)))
 unfolding swap ◌>>=◌ ◌>>◌
 swaps_count words {out} {r = r} {s} promise passes_check room =
     let fits = room_passes (length (sheet_words (swapped s))) (length out) room in

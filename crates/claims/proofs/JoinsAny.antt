@@ -6,11 +6,9 @@ use mathlib.Core.Logic.{◌↔◌}
 use mathlib.Core.List.{List}
 use Prim.Native.Nat.{ℕ, ◌*◌, ◌≤◌, ◌<◌}
 use lib.ListN.{length, take}
-use Rattle.model.specs.declared.Answer.{Answer}
-use Rattle.model.specs.declared.Answer.TheVariants.{Count}
-use Rattle.model.specs.declared.Judgement.{Judgement}
+use Rattle.std.specs.Prelude.{Ok}
 use Rattle.model.specs.Lists.{◌∈◌}
-use Rattle.model.specs.Answers.{passes, said_judgement, looks_in}
+use Rattle.model.specs.Answers.{Answer, Judgement, passes, said_judgement, looks_in}
 use Rattle.model.specs.Tree.{Element, size}
 use Rattle.model.specs.Sheet.{sheet_of}
 use Rattle.model.specs.Compose.{pair, swapped, joint}
@@ -24,7 +22,7 @@ use Rattle.claims.proofs.Joins.{judged_on}
 module _ {tree : List ℕ} {e : Element} where
   -- `join`, lent S, T and a buffer, counts n words.
   module _ (S T : Sheet_on tree e) {out left : List ℕ} {r : Answer} {n : ℕ}
-      (promised : Promised (join S.words T.words (length out)) out r left) (counted : r ≡ Count n) where
+      (promised : Promised (join S.words T.words (length out)) out r left) (counted : r ≡ Ok n) where
     -- The first n words of what it leaves pass the sheet check, and are read as the joint sheet.
     pub passed : sheet_of (take n left) ≡ passes (joint S.sheet T.sheet)
     passed = (join_passes S.words T.words (length out) S.passed T.passed (front_left promised counted)).1
@@ -61,7 +59,7 @@ module _ {tree : List ℕ} {e : Element} where
 
   -- `swap`, lent S and a buffer, counts n words.
   module _ (S : Sheet_on tree e) {out left : List ℕ} {r : Answer} {n : ℕ} (turned : Promised (swap S.words (length out)) out r left)
-      (counted : r ≡ Count n) where
+      (counted : r ≡ Ok n) where
     -- `judge`, lent the first n words of what it leaves, the tree and room for the states, makes a W of them.
     pub swapped_judged : {states after : List ℕ} {answer : Judgement} → JudgePromised (take n left) tree states answer after
         → size e ≤ length states → (W : Sheet_on tree e) × (W.words ≡ take n left) × (W.verdict ≡ said_judgement answer)

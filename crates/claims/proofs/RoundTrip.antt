@@ -4,12 +4,11 @@ use mathlib.Core.Path.{◌≡◌, sym, ap, ◌∙◌}
 use mathlib.Core.List.{List}
 use Prim.Native.Nat.{ℕ, ◌*◌, ◌≤◌}
 use lib.ListN.{length, take}
-use Rattle.model.specs.declared.Answer.{Answer}
-use Rattle.model.specs.declared.Answer.TheVariants.{Count}
-use Rattle.model.specs.Answers.{said}
+use Rattle.std.specs.Prelude.{Ok}
+use Rattle.model.specs.Answers.{Answer}
 use Rattle.model.specs.Tree.{sizeD, wordsD, without_starts}
 use Rattle.model.specs.Written.{node_texts}
-use Rattle.model.specs.Calls.{read, read_said, read_tree, write, write_said, write_out}
+use Rattle.model.specs.Calls.{read, read_said, write, write_said, write_out}
 use Rattle.model.specs.Demands.{Promised, ReadPromised}
 use Rattle.model.proofs.CheckLaws.{passes_inj}
 use Rattle.model.proofs.Answered.{counts, front_left, read-counted}
@@ -32,9 +31,9 @@ write_promised κs a r x (answer, buffer) = record { answer = answer; buffer = b
 -- `write`, lent a tree, the text it was read from and a buffer, counts m bytes; `read`, lent the first m bytes of what it leaves and
 -- room for the tree, gives the tree again: its words are the same but for text starts, and each text has the bytes that it had.
 module _ (list text tree : List ℕ) {out bytes : List ℕ} {w : Answer} {m : ℕ}
-    (written : Promised (write list text tree (length out)) out w bytes) (counted : w ≡ Count m)
+    (written : Promised (write list text tree (length out)) out w bytes) (counted : w ≡ Ok m)
     {buffer left : List ℕ} {r : Answer} (reads : ReadPromised list (take m bytes) buffer r left) (room : length tree ≤ length buffer) where
-  pub read_again : (n : ℕ) × (r ≡ Count n) × (without_starts (take (n * 4) left) ≡ without_starts tree)
+  pub read_again : (n : ℕ) × (r ≡ Ok n) × (without_starts (take (n * 4) left) ≡ without_starts tree)
       × (node_texts (take m bytes) (take (n * 4) left) ≡ node_texts text tree)
   unfolding read_said
   read_again =
@@ -47,10 +46,10 @@ module _ (list text tree : List ℕ) {out bytes : List ℕ} {w : Answer} {m : �
 
 -- `read` counts n nodes; `write`, lent their words, the text and a buffer as long as the text, isn't refused.
 module _ (list text : List ℕ) {buffer left : List ℕ} {r : Answer} {n : ℕ}
-    (reads : ReadPromised list text buffer r left) (counted : r ≡ Count n)
+    (reads : ReadPromised list text buffer r left) (counted : r ≡ Ok n)
     {out bytes : List ℕ} {w : Answer} (written : Promised (write list text (take (n * 4) left) (length out)) out w bytes)
     (room : length text ≤ length out) where
-  pub written_back : (m : ℕ) × (w ≡ Count m)
+  pub written_back : (m : ℕ) × (w ≡ Ok m)
   written_back =
       let (d, passed, _, front) = read-counted list text buffer reads.answer reads.buffer counted in
       let (b, writes) = read-write list text (length buffer) passed (length out) room in (

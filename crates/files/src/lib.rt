@@ -25,15 +25,13 @@ pub fn front<R: Files>(rt: &R, path: &[u8], buffer: &mut [u8]) -> usize
 fn read_full<F: Read>(file: &mut F, buffer: &mut [u8]) -> usize
     ensures { IsPrefixLen result buffer.new }
 {
+    // the library's `read_exact` gives no count where the input ends first
     let mut done = 0;
     while done < buffer.len() {
-        let Ok(n) = file.read(&mut buffer[done..]) else {
-            return done;
-        };
-        if n == 0 {
-            return done;
+        match file.read(&mut buffer[done..]) {
+            Ok(0) | Err(_) => break,
+            Ok(n) => done += n,
         }
-        done += n;
     }
     done
 }

@@ -5,13 +5,16 @@
 const STDOUT: i32 = 1;
 
 fn main(rt: HostRuntime) {
-    let mut list = verdict::names_array();
-    let mut sheet = verdict::sheet_array();
-    let mut form = verdict::form_array();
-    let a = files::front(&rt, b"names.txt", &mut list);
-    let b = files::front(&rt, b"sheet.bin", &mut sheet);
-    let c = files::front(&rt, b"form.txt", &mut form);
+    let mut read = verdict::Buffers::new();
+    let names = files::front(&rt, b"names.txt", &mut read.names);
+    let sheet = files::front(&rt, b"sheet.bin", &mut read.sheet);
+    let form = files::front(&rt, b"form.txt", &mut read.form);
     let mut out = [0u8; verdict::LINE_BYTES];
-    let n = verdict::line(&list[..a], &sheet[..b], &form[..c], &mut out);
+    let n = verdict::line(
+        &read.names[..names],
+        &read.sheet[..sheet],
+        &read.form[..form],
+        &mut out,
+    );
     io::write_all(STDOUT, &out[..n]);
 }

@@ -1,14 +1,5 @@
-// Document 01's numbers that more than one crate needs: the words of trees and sheets, and their limits; and a word as an index.
+// Document 01's numbers that more than one crate needs: the words of trees and sheets, and their limits.
 #![tactic(auto)]
-
-ghost use Rattle.std.specs.Prelude.{◌≡◌};
-
-// A word as an index or a count.
-pub fn wide(word: u32) -> usize
-    ensures { result ≡ word }
-{
-    word as usize
-}
 
 // ---- texts
 

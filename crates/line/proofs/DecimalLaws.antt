@@ -2,17 +2,12 @@
 use mathlib.Core.Path.{◌≡◌, refl, ap}
 use mathlib.Core.List.{List, [], ◌∷◌, ◌++◌}
 use Prim.Native.Nat.{ℕ, zero, suc, ◌+◌, ◌-◌, ◌/◌, ◌%◌, ◌^◌, ◌≤◌, ◌<◌}
-use native.Mathlib.Nat.{suc_inj, pow-zero, pow-suc, pow-le-pow_right, mod-lt}
+use native.Mathlib.Nat.{suc_inj, pow-zero, pow-suc, mod-lt}
 use native.Mathlib.Omega.{arith}
-use lib.ListN.{length}
-use lib.Dec.{leb}
-use borrow.Author.Tests.{lt-ltb, leb-true, leb-false}
+use borrow.Author.Tests.{lt-ltb}
 use Rattle.io.specs.Digits.{hex_digit_ascii, IsDigitCount}
 use Rattle.io.specs.Digits as io
 use Rattle.model.specs.Line.{bytes, digits, decimal, field}
-use Rattle.model.proofs.Tests.{Told, yea, nay, told}
-use Rattle.line.specs.Puts.{Put}
-use Rattle.line.proofs.PutLaws.{put_then}
 
 below_power : (k : ℕ) → k < 10 ^ k
 below_power zero = rw (pow-zero 10) (omega arith)
@@ -50,21 +45,7 @@ decimal-is (suc n) (suc k) (least, high, low) =
     let all = lowest k (suc n) (omega arith) low in
     same_digits (suc k) (suc n) (suc n) high (λ j e. rw (← suc_inj e) all) (omega (arith, below_power k))
 
--- a number of 64 bits has at most 20 digits
-pub few-digits : (n k : ℕ) → n < 18446744073709551616 → IsDigitCount 10 1 n k → k ≤ 20
-few-digits n k h (least, high, low) = go (told (leb k 20))
-  where
-    go : Told (leb k 20) → k ≤ 20
-    go (yea t) = leb-true k 20 t
-    go (nay t) =
-        let many = leb-false k 20 t in
-        let more : 10 ^ 20 ≤ 10 ^ (k - 1) = pow-le-pow_right (omega arith) {i = 20} {j = k - 1} (omega arith) in
-        absurd (omega (arith, low (omega arith)))
-
--- One space and a number's digits are a field, of at most 21 bytes.
-pub put-digits : {l m after : List ℕ} {at o r k : ℕ} {text : List ℕ}
-    (n : ℕ) → k ≤ 20 → length text ≡ k → IsDigitCount 10 1 n k → text ≡ io.last_digits 10 k n
-    → Put l at (bytes " ") o m → Put m o text r after → Put l at (field n) r after × (r ≤ at + 21)
-unfolding field bytes
-put-digits {k = k} n few count fewest spelt space h =
-    (rw (decimal-is n k fewest, ← spelt) (put_then space h), omega (arith, space.next_is, h.next_is))
+-- One space and a number's digits are a field.
+pub field-digits : {k n : ℕ} {text : List ℕ} → IsDigitCount 10 1 n k → text ≡ io.last_digits 10 k n → bytes " " ++ text ≡ field n
+unfolding field
+field-digits {k} {n} fewest spelt = rw (decimal-is n k fewest, ← spelt)

@@ -1,2 +1,2 @@
-mod PutLaws
 mod DecimalLaws
+mod WordLaws

@@ -1,13 +1,15 @@
 // Answers as lines: the bytes that formcheck prints, put into a lent array.
 #![tactic(auto)]
 
-ghost use Rattle.std.specs.Prelude.{◌≡◌, ◌++◌, ◌+◌, ◌≤◌, length, drop};
+ghost use Rattle.std.specs.Prelude.{◌≡◌, ◌++◌, ◌+◌, ◌≤◌, List, [], ℕ, length, take, drop};
 ghost use Rattle.io.specs.Counts.{IsPrefixLen};
-ghost use Rattle.model.specs.Answers.{count, said, said_judgement, said_refusal};
+ghost use Rattle.model.specs.Answers.{said, said_judgement};
 ghost use Rattle.model.specs.Line.{field, line_of};
-ghost use Rattle.line.specs.Puts.{Put, pair_line};
+ghost use Rattle.line.specs.Words.{word_of, numbers_line};
 
-use model::{Answer, Judgement, Refusal};
+use answers::{Kind, Numbers};
+use model::{Refusal, Verdict};
+use std::marker::Model;
 
 // the longest word, and the most digits of a 64-bit number
 const WORD_BYTES: usize = 8;
@@ -17,79 +19,110 @@ const DIGITS: usize = 20;
 // The longest line: a word, twice a space and a number, and the byte that ends it.
 pub const MOST_BYTES: usize = WORD_BYTES + 2 * (1 + DIGITS) + 1;
 
-// ---- each function puts bytes into `out` from `at` on, and gives the index after them
-
-fn put(out: &mut [u8], at: usize, run: &[u8]) -> usize
-    requires { at + length run.now ≤ length out.old }
-    ensures { Put out.old at run.now result out.new }
+// The word for a kind of answers.
+#[tactic(auto, unfolding(crate::specs::Words::word_of, model::specs::Line::bytes))]
+fn word(kind: Kind) -> &'static [u8]
+    ensures spelt { result.now ≡ word_of kind }
+    ensures few { length result.now ≤ 8 }
 {
-    let end = at + run.len();
-    out[at..end].copy_from_slice(run);
-    end
+    match kind {
+        Kind::Count => b"count",
+        Kind::Accepted => b"accepted",
+        Kind::Refused => b"refused",
+        Kind::Stuck => b"stuck",
+        Kind::Error => b"error",
+    }
 }
 
-// One space and a number in decimal.
-fn put_field(out: &mut [u8; MOST_BYTES], at: usize, n: u64) -> usize
-    requires { at + 21 ≤ 51 }
-    ensures put { Put out.old at (field n) result out.new }
-    ensures upper_bound { result ≤ at + 21 }
-{
-    let mut digits = [0u8; DIGITS];
-    let k = io::decimal(n, &mut digits);
-    let start = put(out, at, b" ");
-    put(out, start, &digits[..k])
+// The bytes of a line so far.
+#[derive(Drop)]
+struct Line {
+    bytes: [u8; MOST_BYTES],
+    len: usize,
 }
 
-// ---- lines, from the front of `out` on
+impl Model for Line {
+    ghost Value = { List ℕ };
 
-// A word and two numbers.
-fn pair(word: &[u8], first: u64, second: u64, out: &mut [u8; MOST_BYTES]) -> usize
-    requires { length word.now ≤ 8 }
-    ensures { Put out.old 0 (pair_line word.now first second) result out.new }
-{
-    let first_at = put(out, 0, word);
-    let second_at = put_field(out, first_at, first);
-    let end = put_field(out, second_at, second);
-    put(out, end, b"\n")
+    ghost view = { λ line. take line.len line.bytes };
+
+    ghost invariant = { λ line. line.len ≤ 51 };
 }
 
-fn error(refusal: Refusal, out: &mut [u8; MOST_BYTES]) -> usize
-    ensures { Put out.old 0 (line_of (said_refusal refusal)) result out.new }
-{
-    let numbers = answers::of_refusal(refusal);
-    pair(b"error", numbers.first, numbers.second, out)
+impl Line {
+    fn new() -> Line
+        ensures { result ≡ [] }
+    {
+        Line {
+            bytes: [0; MOST_BYTES],
+            len: 0,
+        }
+    }
+
+    fn push(&mut self, run: &[u8])
+        requires { length self.old + length run.now ≤ 51 }
+        ensures { self.new ≡ self.old ++ run.now }
+    {
+        let end = self.len + run.len();
+        self.bytes[self.len..end].copy_from_slice(run);
+        self.len = end;
+    }
+
+    // One space and a number in decimal.
+    fn push_field(&mut self, n: u64)
+        requires { length self.old + 21 ≤ 51 }
+        ensures field { self.new ≡ self.old ++ field n }
+        ensures few { length self.new ≤ length self.old + 21 }
+    {
+        let mut digits = [0u8; DIGITS];
+        let count = io::decimal(n, &mut digits);
+        self.push(b" ");
+        self.push(&digits[..count]);
+    }
+
+    // The line goes to the front of `out`; its number of bytes.
+    fn copy_to(&self, out: &mut [u8; MOST_BYTES]) -> usize
+        ensures bytes { result ≡ length self.now }
+        ensures out { out.new ≡ self.now ++ drop result out.old }
+        ensures within { IsPrefixLen result out.new }
+    {
+        let line = &self.bytes[..self.len];
+        out[..line.len()].copy_from_slice(line);
+        line.len()
+    }
 }
 
-fn count(n: u64, out: &mut [u8; MOST_BYTES]) -> usize
-    ensures { Put out.old 0 (line_of (count n)) result out.new }
-{
-    let number_at = put(out, 0, b"count");
-    let last = put_field(out, number_at, n);
-    put(out, last, b"\n")
+impl From<Numbers> for Line {
+    ghost from_gives = { λ numbers line. line ≡ numbers_line numbers };
+
+    // A word and one or two numbers, and the byte that ends the line.
+    fn from(numbers: Numbers) -> Line {
+        let mut line = Line::new();
+        line.push(word(numbers.kind));
+        line.push_field(numbers.first);
+        match numbers.kind {
+            Kind::Count => {}
+            _ => line.push_field(numbers.second),
+        }
+        line.push(b"\n");
+        line
+    }
 }
 
 // The line of a count or a refusal goes to the front of `out`; its number of bytes.
-pub fn of_answer(answer: Answer, out: &mut [u8; MOST_BYTES]) -> usize
+pub fn of_answer(answer: Result<usize, Refusal>, out: &mut [u8; MOST_BYTES]) -> usize
     ensures bytes { result ≡ length (line_of (said answer)) }
     ensures out { out.new ≡ line_of (said answer) ++ drop result out.old }
     ensures within { IsPrefixLen result out.new }
 {
-    match answer {
-        Answer::Count(n) => count(n as u64, out),
-        Answer::Error(refusal) => error(refusal, out),
-    }
+    Line::from(Numbers::from(answer)).copy_to(out)
 }
 
 // The line of a verdict or a refusal goes to the front of `out`; its number of bytes.
-pub fn of_judgement(judgement: Judgement, out: &mut [u8; MOST_BYTES]) -> usize
+pub fn of_judgement(judgement: Result<Verdict, Refusal>, out: &mut [u8; MOST_BYTES]) -> usize
     ensures bytes { result ≡ length (line_of (said_judgement judgement)) }
     ensures out { out.new ≡ line_of (said_judgement judgement) ++ drop result out.old }
     ensures within { IsPrefixLen result out.new }
 {
-    match judgement {
-        Judgement::Accepted(state, looks) => pair(b"accepted", state as u64, looks as u64, out),
-        Judgement::Refused(state, looks) => pair(b"refused", state as u64, looks as u64, out),
-        Judgement::Stuck(node, looks) => pair(b"stuck", node as u64, looks as u64, out),
-        Judgement::Error(refusal) => error(refusal, out),
-    }
+    Line::from(Numbers::from(judgement)).copy_to(out)
 }

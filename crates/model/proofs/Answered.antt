@@ -5,13 +5,12 @@ use Prim.Native.Nat.{ℕ, ◌*◌}
 use native.Mathlib.Omega.{arith}
 use lib.ListN.{length, take, drop}
 use lib.Seq.{take_at, drop_at}
-use Rattle.model.specs.Answers.{count, refusal, said, said_refusal, Checked, passes, refuses, ◌>>=◌, answer_of, buffer_after}
+use Rattle.std.specs.Prelude.{Ok, Err}
+use Rattle.model.specs.Answers.{Answer, count, refusal, said, said_refusal, Checked, passes, refuses, ◌>>=◌, answer_of, buffer_after}
 use Rattle.model.specs.Tree.{Element, Document, size, sizeD, wordsD, tree_of}
 use Rattle.model.specs.Sheet.{Sheet, sheet_of}
 use Rattle.model.specs.Names.{names_of}
 use Rattle.model.specs.Calls.{names_said, read, read_said, read_tree, tree_said, sheet_said}
-use Rattle.model.specs.declared.Answer.{Answer}
-use Rattle.model.specs.declared.Answer.TheVariants.{Count, Error}
 use Rattle.model.specs.declared.Refusal.{Refusal}
 use Rattle.model.specs.declared.Refusal.TheVariants as refusals
 use Rattle.model.specs.declared.Refusal.TheVariants.{LongText, ForbiddenByte, Syntax, UnknownName, OtherName, Depth, ManyNodes}
@@ -53,12 +52,12 @@ refusal_said f (passes a) h = let z : ◌≡◌ {A = ℕ} 0 1 = cc in absurd (om
 refusal_said f (refuses m i) h = cc
 
 -- the same of a call's answer r, by its case
-pub counted : {A : Type 0} (f : A → ℕ) (c : Checked A) {r : Answer} {n : ℕ} → said r ≡ answer_of f c → r ≡ Count n
+pub counted : {A : Type 0} (f : A → ℕ) (c : Checked A) {r : Answer} {n : ℕ} → said r ≡ answer_of f c → r ≡ Ok n
     → (a : A) × (c ≡ passes a) × (f a ≡ n)
 unfolding said
 counted f c h e = count-said f c (sym (ap said e) ∙ h)
 
-pub refused : {A : Type 0} (f : A → ℕ) (c : Checked A) {r : Answer} {x : Refusal} → said r ≡ answer_of f c → r ≡ Error x
+pub refused : {A : Type 0} (f : A → ℕ) (c : Checked A) {r : Answer} {x : Refusal} → said r ≡ answer_of f c → r ≡ Err x
     → (m i : ℕ) × (c ≡ refuses m i) × (said_refusal x ≡ refusal m i)
 unfolding said
 refused f c {x = x} h e =
@@ -66,14 +65,14 @@ refused f c {x = x} h e =
     (m, i, refusal_said f c (sym s ∙ sym (ap said e) ∙ h), s)
 
 -- a call that passes counts what it passed
-pub counts : {A : Type 0} (f : A → ℕ) (c : Checked A) {a : A} (r : Answer) → said r ≡ answer_of f c → c ≡ passes a → r ≡ Count (f a)
+pub counts : {A : Type 0} (f : A → ℕ) (c : Checked A) {a : A} (r : Answer) → said r ≡ answer_of f c → c ≡ passes a → r ≡ Ok (f a)
 unfolding answer_of said
-counts f c {a} (Count n) h p = let same : n ≡ f a = cc in ap Count same
-counts f c (Error x) h p = let (m, i, says) = refusal_says x in let z : ◌≡◌ {A = ℕ} 0 1 = cc in absurd (omega arith)
+counts f c {a} (Ok n) h p = let same : n ≡ f a = cc in ap Ok same
+counts f c (Err x) h p = let (m, i, says) = refusal_says x in let z : ◌≡◌ {A = ℕ} 0 1 = cc in absurd (omega arith)
 
 module _ {c : Checked (List ℕ)} {out left : List ℕ} {r : Answer} (promise : Promised c out r left) where
   -- where n words are counted, the first n words left are those of the model's call …
-  pub front_left : {n : ℕ} → r ≡ Count n → c ≡ passes (take n left)
+  pub front_left : {n : ℕ} → r ≡ Ok n → c ≡ passes (take n left)
   unfolding buffer_after
   front_left {n} e =
       let (ws, passed, size) = counted length c promise.answer e in
@@ -82,14 +81,14 @@ module _ {c : Checked (List ℕ)} {out left : List ℕ} {r : Answer} (promise : 
       passed ∙ ap passes (sym front)
 
   -- … and the words past them are as they were
-  pub past_left : {n : ℕ} → r ≡ Count n → drop n left ≡ drop n out
+  pub past_left : {n : ℕ} → r ≡ Ok n → drop n left ≡ drop n out
   unfolding buffer_after
   past_left {n} e =
       let (ws, passed, size) = counted length c promise.answer e in
       ap (drop n) (promise.buffer ∙ ap (buffer_after out) passed) ∙ drop_at ws (drop (length ws) out) n size ∙ ap (λ k. drop k out) size
 
   -- a refusal leaves every word as it was
-  pub refused_left : {x : Refusal} → r ≡ Error x → left ≡ out
+  pub refused_left : {x : Refusal} → r ≡ Err x → left ≡ out
   unfolding buffer_after
   refused_left e =
       let (m, i, refusing, says) = refused length c promise.answer e in
@@ -97,22 +96,22 @@ module _ {c : Checked (List ℕ)} {out left : List ℕ} {r : Answer} (promise : 
 
 -- of a name list
 module _ (list : List ℕ) {r : Answer} where
-  pub names-counted : {n : ℕ} → said r ≡ names_said list → r ≡ Count n → names_of list ≡ passes n
+  pub names-counted : {n : ℕ} → said r ≡ names_said list → r ≡ Ok n → names_of list ≡ passes n
   unfolding names_said
   names-counted h e = let (g, p, q) = counted (λ g. g) (names_of list) h e in p ∙ ap passes q
 
-  pub names-refused : {x : Refusal} → said r ≡ names_said list → r ≡ Error x → (m i : ℕ) × (names_of list ≡ refuses m i) ×
+  pub names-refused : {x : Refusal} → said r ≡ names_said list → r ≡ Err x → (m i : ℕ) × (names_of list ≡ refuses m i) ×
       (said_refusal x ≡ refusal m i)
   unfolding names_said
   names-refused h e = refused (λ g. g) (names_of list) h e
 
 -- of a tree
 module _ (g : ℕ) (t : List ℕ) {r : Answer} where
-  pub tree_counted : {n : ℕ} → said r ≡ tree_said g t → r ≡ Count n → (e : Element) × (tree_of g t ≡ passes e) × (size e ≡ n)
+  pub tree_counted : {n : ℕ} → said r ≡ tree_said g t → r ≡ Ok n → (e : Element) × (tree_of g t ≡ passes e) × (size e ≡ n)
   unfolding tree_said
   tree_counted h e = counted size (tree_of g t) h e
 
-  pub tree_refused : {x : Refusal} → said r ≡ tree_said g t → r ≡ Error x → (i : ℕ) × (tree_of g t ≡ refuses 10 i) ×
+  pub tree_refused : {x : Refusal} → said r ≡ tree_said g t → r ≡ Err x → (i : ℕ) × (tree_of g t ≡ refuses 10 i) ×
       (said_refusal x ≡ refusal 10 i)
   unfolding tree_said
   tree_refused h e =
@@ -122,7 +121,7 @@ module _ (g : ℕ) (t : List ℕ) {r : Answer} where
 
 -- of a text: where n nodes are counted, their words stand at the front of the lent tree
 pub read-counted : (list s tree : List ℕ) {left : List ℕ} {r : Answer} {n : ℕ} → said r ≡ read_said list s tree → left ≡ read_tree list s
-    tree → r ≡ Count n
+    tree → r ≡ Ok n
     → (d : Document) × (read list s (length tree) ≡ passes d) × (sizeD d ≡ n) × (take (n * 4) left ≡ wordsD d)
 unfolding read_said read_tree buffer_after ◌>>=◌
 read-counted list s tree {left} {n = n} h b e =
@@ -132,11 +131,11 @@ read-counted list s tree {left} {n = n} h b e =
 
 -- of a sheet
 module _ (ws : List ℕ) {r : Answer} where
-  pub sheet-counted : {n : ℕ} → said r ≡ sheet_said ws → r ≡ Count n → (n ≡ length ws) × ((s : Sheet) × (sheet_of ws ≡ passes s))
+  pub sheet-counted : {n : ℕ} → said r ≡ sheet_said ws → r ≡ Ok n → (n ≡ length ws) × ((s : Sheet) × (sheet_of ws ≡ passes s))
   unfolding sheet_said
   sheet-counted h e = let (s, p, q) = counted (λ s. length ws) (sheet_of ws) h e in (sym q, (s, p))
 
-  pub sheet-refused : {x : Refusal} → said r ≡ sheet_said ws → r ≡ Error x → (i : ℕ) × (sheet_of ws ≡ refuses 9 i) ×
+  pub sheet-refused : {x : Refusal} → said r ≡ sheet_said ws → r ≡ Err x → (i : ℕ) × (sheet_of ws ≡ refuses 9 i) ×
       (said_refusal x ≡ refusal 9 i)
   unfolding sheet_said
   sheet-refused h e =

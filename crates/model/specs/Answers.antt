@@ -1,13 +1,11 @@
 -- What the public calls say, in document 01's numbers; a check that passes or refuses; one check after another.
-use Rattle.std.specs.Prelude.{Bool, true, false, List, ◌++◌, ℕ, leb, length, drop}
+use Rattle.std.specs.Prelude.{Bool, true, false, List, ◌++◌, ℕ, leb, length, drop, Result, Ok, Err}
 use Rattle.model.specs.declared.Refusal.{Refusal}
 use Rattle.model.specs.declared.Refusal.TheVariants.{LongText, ForbiddenByte, Syntax, UnknownName, OtherName, Depth, ManyNodes}
 use Rattle.model.specs.declared.Refusal.TheVariants.{NameList, Sheet, Tree, TextWords, TagCounts, JointLimit, ShortBuffer, TwoStates}
 use Rattle.model.specs.declared.Refusal.TheVariants.{LongForm}
-use Rattle.model.specs.declared.Answer.{Answer}
-use Rattle.model.specs.declared.Answer.TheVariants as answer
-use Rattle.model.specs.declared.Judgement.{Judgement}
-use Rattle.model.specs.declared.Judgement.TheVariants as judgement
+use Rattle.model.specs.declared.Verdict.{Verdict}
+use Rattle.model.specs.declared.Verdict.TheVariants as verdict
 
 -- A refusal is a number and a place. A call that is not refused gives a count, of names, nodes, bytes or words;
 -- a run gives a verdict, accepted or refused with the root's state and the looks, or stuck with a node and the looks.
@@ -36,16 +34,27 @@ said_refusal (ShortBuffer n) = refusal 22 n
 said_refusal (TwoStates i) = refusal 23 i
 said_refusal (LongForm n) = refusal 24 n
 
+-- A call gives a count, or a refusal; a run gives a verdict, or a refusal.
+abbrev pub Answer : Type 0
+Answer = Result ℕ Refusal
+
+abbrev pub Judgement : Type 0
+Judgement = Result Verdict Refusal
+
+-- what a verdict says
+unfoldable pub said_verdict : Verdict → Said
+said_verdict (verdict.Accepted q m) = accepted q m
+said_verdict (verdict.Refused q m) = refused q m
+said_verdict (verdict.Stuck i m) = stuck i m
+
 -- what an answer, and a judgement, says
 unfoldable pub said : Answer → Said
-said (answer.Count n) = count n
-said (answer.Error r) = said_refusal r
+said (Ok n) = count n
+said (Err r) = said_refusal r
 
 unfoldable pub said_judgement : Judgement → Said
-said_judgement (judgement.Accepted q m) = accepted q m
-said_judgement (judgement.Refused q m) = refused q m
-said_judgement (judgement.Stuck i m) = stuck i m
-said_judgement (judgement.Error r) = said_refusal r
+said_judgement (Ok v) = said_verdict v
+said_judgement (Err r) = said_refusal r
 
 -- the looks of a verdict
 abbrev pub looks_in : Said → ℕ

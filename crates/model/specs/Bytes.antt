@@ -1,6 +1,8 @@
 -- Bytes and names: document 01, "Text and names".
 use Rattle.std.specs.Prelude.{Bool, true, false, cond, ◌&&◌, ◌||◌, List, [], ◌∷◌, ℕ, eqb, leb}
 use Rattle.model.specs.Lists.{every}
+use Rattle.model.specs.declared.TextKind.{TextKind}
+use Rattle.model.specs.declared.TextKind.TheVariants.{Integer, Other}
 
 -- each byte value has one class
 pub data Class : Type 0 where
@@ -74,3 +76,7 @@ digit_byte b = is (class_of b) digit
 
 unfoldable pub kind_of_text : List ℕ → ℕ
 kind_of_text s = cond (every digit_byte s) 1 2
+
+abbrev pub text_kind : TextKind → ℕ
+text_kind Integer = 1
+text_kind Other = 2

@@ -1,8 +1,6 @@
 -- The words of the claims: what calls promise, as one record for each; how a verdict is read; what three files present.
 use Rattle.std.specs.Prelude.{◌≡◌, ◌⊎◌, List, ◌++◌, ℕ, ◌*◌, ◌/◌, ◌≤◌, length, get_or, drop}
-use Rattle.model.specs.declared.Answer.{Answer}
-use Rattle.model.specs.declared.Judgement.{Judgement}
-use Rattle.model.specs.Answers.{Said, accepted, refused, refusal, said, said_judgement, looks_in, Checked, passes, answer_of}
+use Rattle.model.specs.Answers.{Answer, Judgement, Said, accepted, refused, refusal, said, said_judgement, looks_in, Checked, passes, answer_of}
 use Rattle.model.specs.Answers.{buffer_after}
 use Rattle.model.specs.Tree.{Element, ε, ◌·◌, size, tree_of}
 use Rattle.model.specs.Sheet.{Sheet, sheet_of, file_words}

@@ -1,4 +1,5 @@
-// The answers of the public calls. `specs/Answers.antt` gives document 01's number and values for each case.
+// The answers of the public calls: a count of names, nodes, bytes or words, or a verdict; or a refusal. And the kinds of texts.
+// `specs/Answers.antt` and `specs/Bytes.antt` give document 01's numbers and values for each case.
 #![tactic(auto)]
 
 // Why a call refuses its input, with the place that document 01 names.
@@ -38,18 +39,17 @@ pub enum Refusal {
     LongForm(usize),
 }
 
-// A count of names, nodes, bytes or words, or a refusal.
-#[derive(Clone, Copy)]
-pub enum Answer {
-    Count(usize),
-    Error(Refusal),
+// The kind of a text: an integer, which is digits alone, or any other.
+#[derive(Clone, Copy, PartialEq, Eq)]
+pub enum TextKind {
+    Integer,
+    Other,
 }
 
-// A verdict with the root's state, or the highest-numbered node without a state, and the looks; or a refusal.
+// What a run gives that is not refused: the root's state, final or not, or the highest-numbered node without a state; and the looks.
 #[derive(Clone, Copy)]
-pub enum Judgement {
-    Accepted(u32, u32),
-    Refused(u32, u32),
-    Stuck(usize, u32),
-    Error(Refusal),
+pub enum Verdict {
+    Accepted { state: u32, looks: u32 },
+    Refused { state: u32, looks: u32 },
+    Stuck { node: usize, looks: u32 },
 }

@@ -1,52 +1,16 @@
--- Keys and lengths of steps, by the code's tests of their words.
+-- Keys of rules, by their first two words.
 use mathlib.Core.Path.{◌≡◌, refl}
-use mathlib.Core.Logic.{◌≢◌}
 use mathlib.Core.Bool.{Bool, true, false, cond}
 use mathlib.Core.List.{List}
-use Prim.Native.Nat.{ℕ, ◌+◌, ◌*◌, ◌≤◌, ◌<◌, min}
+use Prim.Native.Nat.{ℕ, ◌+◌, ◌<◌, min}
 use native.Mathlib.Omega.{arith}
 use lib.Dec.{eqb}
-use lib.ListN.{length, get_or}
-use borrow.Author.Tests as tests
-use Rattle.model.specs.Sheet.{Rule, one, two, three, W, members}
+use lib.ListN.{get_or}
+use Rattle.model.specs.Sheet.{Rule, one, two, three}
 use Rattle.model.specs.Spans.{RuleAt, there_is, map_of}
 use Rattle.model.specs.Index.{key}
 use Rattle.model.proofs.RuleWords.{content-map, text_key, tag_key}
-use Rattle.parts.specs.Lengths.{sum_length, step_length, key_by}
-
-module _ {map r : ℕ} (second : ℕ) where
-  pub key_text : map ≡ 33 → r ≡ min second 2 → (r ≡ key_by map second) × (r < 67)
-  unfolding key_by
-  key_text e f = (rw e f, omega arith)
-
-  pub key_tag : map ≡ 38 → r ≡ 2 + min second 64 → (r ≡ key_by map second) × (r < 67)
-  unfolding key_by
-  key_tag e f = (rw e f, omega arith)
-
-  pub key-content : map ≢ 33 → map ≢ 38 → r ≡ 0 → (r ≡ key_by map second) × (r < 67)
-  unfolding key_by
-  key-content e f g = (rw (tests.ne_eqb map 33 e, tests.ne_eqb map 38 f) g, omega arith)
-
-module _ (s : List ℕ) (a : ℕ) {kind r : ℕ} (e : kind ≡ get_or s a 0) where
-  pub step_sum : {low high set n : ℕ} → kind ≤ 2 → low ≡ get_or s (a + 1) 0 → high ≡ get_or s (a + 2) 0 → set ≡ low + high * W → n ≡ length
-      (members 64 set)
-      → r ≡ 3 + n + kind → r ≡ step_length s a
-  unfolding step_length sum_length
-  step_sum {n = n} h el eh f g i =
-      let m : n ≡ length (members 64 (get_or s (a + 1) 0 + get_or s (a + 2) 0 * W)) = rw (← el, ← eh, ← f) g in
-      rw (← e, tests.le-leb kind 2 h) (omega (arith, m))
-
-  pub step_one : kind ≡ 3 → r ≡ 2 → r ≡ step_length s a
-  unfolding step_length
-  step_one h g = rw (← e, h) g
-
-  pub step_two : 2 < kind → kind ≢ 3 → r ≡ 3 → r ≡ step_length s a
-  unfolding step_length
-  step_two h f g = rw (← e, tests.lt-leb kind 2 h, tests.ne_eqb kind 3 f) g
-
-pub sum-long : (low high : ℕ) {n set r : ℕ} → set ≡ low + high * W → n ≡ length (members 64 set) → r ≡ n → 2 + r ≡ sum_length low high
-unfolding sum_length
-sum-long low high e f g = rw (g, f, e)
+use Rattle.parts.specs.Lengths.{key_by}
 
 -- the first two words of a rule tell its key
 pub key_of_rule : {p a : ℕ} {s : List ℕ} (x : Rule) → RuleAt p s a x → key_by (get_or s a 0) (get_or s (a + 1) 0) ≡ key x

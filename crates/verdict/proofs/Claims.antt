@@ -1,5 +1,5 @@
 -- The line of whole files, and what it tells of them, by the promise of `line` alone. A program reads as much of each file as its array
--- holds; `names_array`, `sheet_array` and `form_array` promise how much that is.
+-- holds; `Buffers::new` promises how much that is.
 use mathlib.Core.Path.{◌≡◌, sym, ap, ◌∙◌}
 use mathlib.Core.Logic.{◌↔◌}
 use mathlib.Core.List.{List}

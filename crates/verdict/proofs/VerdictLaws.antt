@@ -7,10 +7,9 @@ use native.Mathlib.Omega.{arith}
 use lib.ListN.{length, get_or, take, drop}
 use lib.Seq.{take_at}
 use borrow.Author.Tests.{ne_eqb}
-use Rattle.model.specs.declared.Answer.{Answer}
-use Rattle.model.specs.declared.Answer.TheVariants.{Count, Error}
+use Rattle.std.specs.Prelude.{Ok, Err}
 use Rattle.model.specs.declared.Refusal.{Refusal}
-use Rattle.model.specs.Answers.{refusal, said_refusal, said, Checked, passes, refuses, ◌>>=◌, ◌>>◌, require, room_for, buffer_after}
+use Rattle.model.specs.Answers.{Answer, refusal, said_refusal, said, Checked, passes, refuses, ◌>>=◌, ◌>>◌, require, room_for, buffer_after}
 use Rattle.model.specs.Tree.{Document, sizeD, words, wordsD}
 use Rattle.model.specs.Sheet.{Sheet, sheet_of, sheet_words, set_words, file_words}
 use Rattle.model.specs.Names.{names_of}
@@ -90,11 +89,11 @@ module _ (list file s : List ℕ) where
 
   -- ---- the calls' answers
 
-  pub names-refused : {r : Answer} {x : Refusal} → said r ≡ names_said list → r ≡ Error x → said_refusal x ≡ formcheck list file s
+  pub names-refused : {r : Answer} {x : Refusal} → said r ≡ names_said list → r ≡ Err x → said_refusal x ≡ formcheck list file s
   names-refused e c = let (n, i, p, f) = answered.names-refused list e c in f ∙ at_names p
 
   pub sheet-refused : {g : ℕ} → names_of list ≡ passes g → (buffer : List ℕ) → 16384 ≤ length buffer
-      → {r : Answer} {x : Refusal} → said r ≡ from_file_said file buffer → r ≡ Error x → said_refusal x ≡ formcheck list file s
+      → {r : Answer} {x : Refusal} → said r ≡ from_file_said file buffer → r ≡ Err x → said_refusal x ≡ formcheck list file s
   unfolding from_file_said
   sheet-refused names buffer large e c =
       let (n, i, p, f) = answered.refused length (from_file file (length buffer)) e c in
@@ -107,7 +106,7 @@ pub record SheetIn (file buffer : List ℕ) (n : ℕ) : Type 0 where
   pub passes_there : Passes (take n buffer)
 
 pub sheet-counted : (file buffer : List ℕ) {after : List ℕ} {r : Answer} {n : ℕ} → (said r ≡ from_file_said file buffer) ×
-    (after ≡ from_file_sheet file buffer) → r ≡ Count n
+    (after ≡ from_file_sheet file buffer) → r ≡ Ok n
     → SheetIn file after n
 unfolding from_file_said from_file_sheet from_file buffer_after passed
 sheet-counted file buffer {after} {n = n} (e, ea) c =
@@ -142,7 +141,7 @@ pub record TreeIn (list s buffer : List ℕ) (n : ℕ) : Type 0 where
 
 module _ (list s : List ℕ) {g : ℕ} (names : names_of list ≡ passes g) where
   pub tree_counted : (tree : List ℕ) {after : List ℕ} {r : Answer} {n : ℕ} → (said r ≡ read_said list s tree) ×
-      (after ≡ read_tree list s tree) → r ≡ Count n → TreeIn list s after n
+      (after ≡ read_tree list s tree) → r ≡ Ok n → TreeIn list s after n
   tree_counted tree {after} {n = n} (e, ea) c =
       let (d, p, nodes, front) = answered.read-counted list s tree e ea c in
       let reads = read_inv list s names (length tree) p in
@@ -153,7 +152,7 @@ module _ (list s : List ℕ) {g : ℕ} (names : names_of list ≡ passes g) wher
     as_sheet : sheet_of (file_words file) ≡ passes (sheet_in sheet)
     as_sheet = ap sheet_of from ∙ ok.as_sheet
 
-    pub text_refused : (tree : List ℕ) → 16384 ≤ length tree → {r : Answer} {x : Refusal} → said r ≡ read_said list s tree → r ≡ Error x →
+    pub text_refused : (tree : List ℕ) → 16384 ≤ length tree → {r : Answer} {x : Refusal} → said r ≡ read_said list s tree → r ≡ Err x →
         said_refusal x ≡ formcheck list file s
     unfolding read_said
     text_refused tree large e c =

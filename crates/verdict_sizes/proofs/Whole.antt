@@ -1,5 +1,4 @@
--- The line of whole files. A program reads as much of each as its array holds; `names_array`, `sheet_array` and `form_array` promise
--- how much that is.
+-- The line of whole files. A program reads as much of each as its array holds; `Buffers::new` promises how much that is.
 use mathlib.Core.Path.{◌≡◌, ap}
 use mathlib.Core.List.{List}
 use Prim.Native.Nat.{ℕ}

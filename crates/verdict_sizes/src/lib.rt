@@ -12,20 +12,24 @@ const SHEET_BYTES: usize = 65540;
 
 const FORM_BYTES: usize = 65536;
 
-pub fn names_array() -> [u8; NAMES_BYTES]
-    ensures { result ≡ replicate names_bytes 0 }
-{
-    [0; NAMES_BYTES]
+// An array for each file.
+#[derive(Drop)]
+pub struct Buffers {
+    pub names: [u8; NAMES_BYTES],
+    pub sheet: [u8; SHEET_BYTES],
+    pub form: [u8; FORM_BYTES],
 }
 
-pub fn sheet_array() -> [u8; SHEET_BYTES]
-    ensures { result ≡ replicate sheet_bytes 0 }
-{
-    [0; SHEET_BYTES]
-}
-
-pub fn form_array() -> [u8; FORM_BYTES]
-    ensures { result ≡ replicate form_bytes 0 }
-{
-    [0; FORM_BYTES]
+impl Buffers {
+    pub fn new() -> Buffers
+        ensures names { result.names ≡ replicate names_bytes 0 }
+        ensures sheet { result.sheet ≡ replicate sheet_bytes 0 }
+        ensures form { result.form ≡ replicate form_bytes 0 }
+    {
+        Buffers {
+            names: [0; NAMES_BYTES],
+            sheet: [0; SHEET_BYTES],
+            form: [0; FORM_BYTES],
+        }
+    }
 }

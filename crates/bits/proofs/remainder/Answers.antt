@@ -1,25 +1,24 @@
 -- `bits::remainder` meets its contract.
-use borrow.Author.Tests.{eq-eqb}
-use Rattle.bits.proofs.SignedLaws.{rest-≤, below-fits, below_cast, remainder_below, above_cast, remainder_above}
+use mathlib.Core.Path.{◌≡◌, ◌∙◌}
+use Prim.Native.Nat.{◌^◌, ◌<◌}
+use lib.IntN.{ℤ, pos}
+use lib.Signed.{mag}
+use mir.Syntax.{w32, w64}
+use borrow.Author.Tests.{ne_eqb}
+use Rattle.std.proofs.lemmas.Int.{to_z-of_z}
+use Rattle.model.specs.Words.{remainder_of}
+use Rattle.bits.proofs.SignedLaws.{rest_is}
 use Rattle.bits.proofs.remainder.Goals as goal
 
-pub returns-then-m-eq0 : goal.returns-then-m-eq0
-returns-then-m-eq0 c = rw (eq-eqb _ 0 c.if-m-eq0.true)
-
-pub overflow_sub-below : goal.overflow_sub-below
-overflow_sub-below c = below-fits _ c.ranges.z c.if-z-lt0.true
-
-pub overflow_cast-below : goal.overflow_cast-below
-overflow_cast-below c = below_cast _ c.ranges.z c.if-z-lt0.true
-
-pub overflow_sub-result-then-z-lt0 : goal.overflow_sub-result-then-z-lt0
-overflow_sub-result-then-z-lt0 c = rest-≤ _ _ c.if-m-eq0.false
-
-pub returns-then-z-lt0 : goal.returns-then-z-lt0
-returns-then-z-lt0 c = remainder_below _ c.ranges.z c.if-z-lt0.true _ c.if-m-eq0.false
-
-pub overflow_cast-result : goal.overflow_cast-result
-overflow_cast-result c = above_cast _ c.ranges.z c.if-z-lt0.false
-
 pub returns : goal.returns
-returns c = remainder_above _ c.ranges.z c.if-z-lt0.false _ c.if-m-eq0.false
+returns c =
+    let back = λ (z : ℤ) (f : mag z < 2 ^ 63). to_z-of_z w64 z (record { sfits = f }) in
+    let value : c.rem_euclid.result ≡ pos (remainder_of c.args.z c.args.m) =
+    c.rem_euclid.ensures.value ∙ rw (
+      back _ c.from.type_inv,
+      back _ c.from-2.type_inv,
+      c.from.ensures,
+      c.from-2.ensures,
+      to_z-of_z w32 _ c.ranges.z,
+    ) (rest_is _ _) in
+    rw (back _ c.rem_euclid.type_inv, value, ne_eqb _ 0 c.if-m-eq0.false)

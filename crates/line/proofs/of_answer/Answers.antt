@@ -1,23 +1,10 @@
--- `of_answer` meets its contract, case by case.
-use borrow.Author.Rules.{rules}
-use Rattle.model.specs.Answers.{said}
-use Rattle.line.proofs.PutLaws.{put_front}
+-- `of_answer` meets its contract: the line of the answer's numbers is its own.
+use mathlib.Core.Path.{◌∙◌}
+use Rattle.line.proofs.WordLaws.{line-said}
 use Rattle.line.proofs.of_answer.Goals as goal
 
-pub count-requires : goal.count-requires
-unfolding said
-count-requires c = search rules
+pub returns-clause-bytes : goal.returns-clause-bytes
+returns-clause-bytes c = c.copy_to.ensures.bytes ∙ rw (c.from-2.ensures, c.from.ensures, line-said)
 
-pub error-requires : goal.error-requires
-unfolding said
-error-requires c = search rules
-
-pub returns-in-Count : goal.returns-in-Count
-unfolding said
-returns-in-Count c =
-    let p = put_front c.count.ensures in rw c.in-Count.is (record { bytes = p.0; out = p.1.0; within = p.1.1 })
-
-pub returns-in-Error : goal.returns-in-Error
-unfolding said
-returns-in-Error c =
-    let p = put_front c.error.ensures in rw c.in-Error.is (record { bytes = p.0; out = p.1.0; within = p.1.1 })
+pub returns-clause-out : goal.returns-clause-out
+returns-clause-out c = c.copy_to.ensures.out ∙ rw (c.from-2.ensures, c.from.ensures, line-said)

@@ -1,13 +1,11 @@
--- `symbols::of_text` meets its contract.
-use mathlib.Core.Path.{◌≡◌}
-use native.Mathlib.Omega.{arith}
+-- `symbols::of_text` meets its contract: each symbol computes to its kind.
 use Rattle.model.specs.Tree.{symbol_of}
 use Rattle.symbols.proofs.of_text.Goals as goal
 
-pub returns-then-kind-eq1 : goal.returns-then-kind-eq1
+pub returns-in-Integer : goal.returns-in-Integer
 unfolding symbol_of
-returns-then-kind-eq1 c = λ h. rw c.if-kind-eq1.true
+returns-in-Integer c = rw c.in-Integer.is
 
-pub returns-else-kind-eq1 : goal.returns-else-kind-eq1
+pub returns-in-Other : goal.returns-in-Other
 unfolding symbol_of
-returns-else-kind-eq1 c = λ h. let e : c.args.kind ≡ 2 = omega arith in rw e
+returns-in-Other c = rw c.in-Other.is
