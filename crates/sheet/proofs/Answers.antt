@@ -8,9 +8,9 @@ use lib.ListN.{length, take, drop}
 use lib.Seq.{take_at}
 use borrow.Author.Tests as tests
 use Rattle.model.specs.declared.Refusal.{Refusal}
-use Rattle.model.specs.declared.Answer.{Answer}
-use Rattle.model.specs.declared.Answer.TheVariants.{Count, Error}
-use Rattle.model.specs.Answers.{Said, count, refusal, said_refusal, said, passes, refuses, ◌>>=◌, ◌>>◌, require, room_for, answer_of}
+use Rattle.std.specs.Prelude.{Ok, Err}
+use Rattle.model.specs.Answers.{Answer, Said, count, refusal, said_refusal, said, passes, refuses, ◌>>=◌, ◌>>◌, require}
+use Rattle.model.specs.Answers.{room_for, answer_of}
 use Rattle.model.specs.Answers.{buffer_after}
 use Rattle.model.specs.Sheet.{Sheet, sheet_of, file_words}
 use Rattle.model.specs.Index.{sheet_in, Passes, index_words, index_after}
@@ -22,17 +22,17 @@ use Rattle.model.proofs.PassedLaws.{passes_in}
 -- ---- the index
 
 module _ (s : List ℕ) {r : Answer} (e : said r ≡ sheet_said s) where
-  pub passes_counted : {n : ℕ} → r ≡ Count n → Passes s
+  pub passes_counted : {n : ℕ} → r ≡ Ok n → Passes s
   passes_counted f = let (_, (t, h)) = sheet-counted s e f in (passes_in h).0
 
-  pub index-refused : (index : List ℕ) {x : Refusal} → r ≡ Error x → (said (Error x) ≡ sheet_said s) × (index ≡ index_after index s)
+  pub index-refused : (index : List ℕ) {x : Refusal} → r ≡ Err x → index ≡ index_after index s
   unfolding index_after ◌>>=◌ buffer_after
-  index-refused index f = let (_, h, _) = sheet-refused s e f in (rw f at e, rw h)
+  index-refused index f = let (_, h, _) = sheet-refused s e f in rw h
 
-  pub index_left : (index : List ℕ) {left : List ℕ} {n : ℕ} → r ≡ Count n → left ≡ buffer_after index (passes (index_words (sheet_in s)))
-      → (said (Count n) ≡ sheet_said s) × (left ≡ index_after index s)
+  pub index_left : (index : List ℕ) {left : List ℕ} {n : ℕ} → r ≡ Ok n → left ≡ buffer_after index (passes (index_words (sheet_in s)))
+      → left ≡ index_after index s
   unfolding index_after ◌>>=◌
-  index_left index f h = (rw f at e, rw (passes_counted f).as_sheet h)
+  index_left index f h = rw (passes_counted f).as_sheet h
 
 -- ---- a sheet from a file: r is the check's answer on its whole words
 
@@ -52,14 +52,14 @@ module _ (b room : List ℕ) {room' : List ℕ} {n : ℕ} (en : n ≡ min 16384 
 -- r is the check's answer on them
 module _ (b d room : List ℕ) {room' : List ℕ} {n : ℕ} {r : Answer} (en : n ≡ min 16384 (length b / 4))
     (er : room' ≡ take n (file_words b) ++ drop n room) (ec : said r ≡ sheet_said (take n room')) where
-  pub answers_refusal : {x : Refusal} → r ≡ Error x → Gives b d (said_refusal x) d
+  pub answers_refusal : {x : Refusal} → r ≡ Err x → Gives b d (said_refusal x) d
   unfolding from_file_said from_file_sheet from_file ◌>>=◌ answer_of buffer_after
   answers_refusal h =
       let (i, s, x) = sheet-refused (take n (file_words b)) (ec ∙ ap sheet_said (front b room en er)) h in
       let f : sheet_of (file_words b) ≡ refuses 9 i = file-sheet b en ∙ rw s in
       rw x (rw f, rw f)
 
-  module _ {m : ℕ} (h : r ≡ Count m) where
+  module _ {m : ℕ} (h : r ≡ Ok m) where
     counted : (t : Sheet) × (sheet_of (file_words b) ≡ cond (eqb (n * 4) (length b)) (passes t) (refuses 9 n))
     unfolding ◌>>=◌
     counted =

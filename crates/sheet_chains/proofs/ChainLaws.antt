@@ -1,9 +1,8 @@
 -- The index is made from the last rule to the first: each is put before the rules with its key that are there already.
 use mathlib.Core.Path.{◌≡◌, refl, sym, ap, ◌∙◌}
 use mathlib.Core.List.{List, [], ◌∷◌, ◌++◌, map, flat_map, append_assoc}
-use Prim.Native.Nat.{ℕ, zero, suc, ◌+◌, ◌*◌, ◌^◌, ◌≤◌, ◌<◌}
+use Prim.Native.Nat.{ℕ, suc, ◌+◌, ◌*◌, ◌^◌, ◌≤◌, ◌<◌}
 use native.Mathlib.Nat.{zero-add}
-use native.Mathlib.Numerals.{add-one}
 use native.Mathlib.Omega.{arith}
 use lib.Dec.{eqb}
 use lib.ListN.{length, get_or, take, drop, set, replicate, length-set, length-append, length-drop, length-map, drop_of_length-le}
@@ -22,16 +21,6 @@ use Rattle.parts.proofs.LengthLaws.{key_of_rule, key-few}
 use Rattle.sheet_chains.specs.Entries.{key_at, with_entry, EntryFits}
 
 -- ---- heads
-
--- one more head
-pub head_more : (n k : ℕ) (old : List ℕ) {index : List ℕ} → index ≡ replicate k n ++ drop k old → k < length old
-    → set index k n ≡ replicate (k + 1) n ++ drop (k + 1) old
-head_more n k old e l = rw (e, add-one k) (go k old l)
-  where
-    go : (k : ℕ) (old : List ℕ) → k < length old → set (replicate k n ++ drop k old) k n ≡ replicate (suc k) n ++ drop (suc k) old
-    go k [] l = absurd (omega arith)
-    go zero (x ∷ old) l = refl
-    go (suc k) (x ∷ old) l = ap (λ (r : List ℕ). n ∷ r) (go k old (omega arith))
 
 -- for each key the first of the rules from number j on
 abbrev heads : List Rule → ℕ → List ℕ
@@ -90,24 +79,25 @@ pub record Chaining (s old index : List ℕ) (j : ℕ) : Type 0 where
 
 module _ {s : List ℕ} (ok : Passes s) where
   -- with no rule there is only the end
-  pub chaining_none : {old cleared : List ℕ} {n j : ℕ} → cleared ≡ replicate 67 n ++ drop 67 old → n ≡ get_or s 5 0 → j ≡ n
-      → length old ≡ 1092 → Chaining s old (set cleared (67 + j) (length s)) j
+  pub chaining_none : {old cleared : List ℕ} {n : ℕ} → cleared ≡ replicate (length (take 67 old)) n → n ≡ get_or s 5 0
+      → length old ≡ 1092 → Chaining s old (set (cleared ++ drop 67 old) (67 + n) (length s)) n
   unfolding first_with entries from
-  chaining_none {old} {cleared} {n} {j} h e f room =
-      let number : j ≡ length (rules_in s) = f ∙ e ∙ rules-word ok in
+  chaining_none {old} {cleared} {n} h e room =
+      let number : n ≡ length (rules_in s) = e ∙ rules-word ok in
       let tail = drop 67 old in
-      let inside : j < length tail = omega (arith, length-drop 67 old, in_range ok) in
-      let none : drop j (rules_in s) ≡ [] = drop_of_length-le (rules_in s) {i = j} (omega arith) in
-      let end : length s ≡ begin (sheet_in s).states 6 (rules_in s) j
+      let heads_is : cleared ≡ replicate 67 n = rw (length-take-le 67 old (omega arith)) at h in
+      let inside : n < length tail = omega (arith, length-drop 67 old, in_range ok) in
+      let none : drop n (rules_in s) ≡ [] = drop_of_length-le (rules_in s) {i = n} (omega arith) in
+      let end : length s ≡ begin (sheet_in s).states 6 (rules_in s) n
       = (rules-there ok).ends ∙ rw (number, take-length (rules_in s)) in
-      let after_j : 67 + suc j ≡ 68 + length (rules_in s) = omega arith in
+      let after_n : 67 + suc n ≡ 68 + length (rules_in s) = omega arith in
       record {
-        long = simp length-set (omega (arith, ap length h, length-append (replicate 67 n) tail, length-drop 67 old));
+        long = rw heads_is (simp length-set (omega (arith, length-append (replicate 67 n) tail, length-drop 67 old)));
         few = omega arith;
-        words = ap (λ (l : List ℕ). set l (67 + j) (length s)) (h ∙ ap (λ (l : List ℕ). replicate 67 n ++ l) (split_at tail j 0 inside))
-            ∙ set_after (replicate 67 n) (take j tail) (get_or tail j 0) (length s) (drop (suc j) tail) (67 + j)
-            (omega (arith, length-take-le j tail (omega arith)))
-            ∙ rw (none, ← end, drop-drop (suc j) 67 old, after_j, f);
+        words = rw heads_is (ap (λ (l : List ℕ). set (replicate 67 n ++ l) (67 + n) (length s)) (split_at tail n 0 inside)
+            ∙ set_after (replicate 67 n) (take n tail) (get_or tail n 0) (length s) (drop (suc n) tail) (67 + n)
+            (omega (arith, length-take-le n tail (omega arith)))
+            ∙ rw (none, ← end, drop-drop (suc n) 67 old, after_n));
       }
 
   module _ {old index : List ℕ} {i j : ℕ} (h : Chaining s old index i) (next : i ≡ suc j) (room : length old ≡ 1092) where

@@ -1,5 +1,5 @@
--- Where a sheet ends: the answer of the check by the walk over its first 16,384 words.
-use mathlib.Core.Path.{◌≡◌, ◌∙◌}
+-- Where a sheet ends: the answer of the check by where its first 16,384 words are read to.
+use mathlib.Core.Path.{◌≡◌, sym, ◌∙◌}
 use mathlib.Core.Logic.{by_cases}
 use mathlib.Core.List.{List}
 use Prim.Native.Nat.{ℕ, min}
@@ -8,8 +8,8 @@ use native.Mathlib.Omega.{arith}
 use lib.ListN.{length, take}
 use lib.Seq.{take_all}
 use borrow.Author.Tests as tests
-use Rattle.sheet_walk.specs.declared.Walk.{Walk}
-use Rattle.sheet_walk.specs.declared.Walk.TheVariants.{At, Bad}
+use Rattle.std.specs.Prelude.{Result, Ok, Err}
+use Rattle.sheet_walk.specs.declared.Bad.{Bad}
 use Rattle.model.specs.Answers.{count, refusal, answer_of}
 use Rattle.model.specs.Sheet.{Sheet, got, sheet, ended, sheet_of}
 use Rattle.model.specs.Calls.{sheet_said}
@@ -22,18 +22,17 @@ take_min : (n : ℕ) (s : List ℕ) → take (min n (length s)) s ≡ take n s
 take_min n s = by_cases (dec_le (length s) n) (λ h. rw (take_all n s h, take_all (min n (length s)) s (omega arith)))
     (λ h. let m : min n (length s) ≡ n = omega arith in rw m)
 
-module _ (s : List ℕ) {e : ℕ} {w : Walk} (ee : e ≡ min 16384 (length s)) (ew : w ≡ after sheet (take e s) (At 0)) where
+module _ (s : List ℕ) {e : ℕ} {w : Result ℕ Bad} (ee : e ≡ min 16384 (length s)) (ew : w ≡ after sheet (take e s) 0) where
   reading : w ≡ left_at (sheet (take 16384 s) 0)
-  unfolding after
   reading = ew ∙ rw (ee, take_min 16384 s)
 
-  pub ends_bad : {k : ℕ} → w ≡ Bad k → refusal 9 k ≡ sheet_said s
+  pub ends_bad : {b : Bad} → w ≡ Err b → refusal 9 b.0 ≡ sheet_said s
   unfolding sheet_said answer_of sheet_of ended
-  ends_bad f = rw (left_bad (sheet (take 16384 s) 0) reading f)
+  ends_bad f = rw (left_bad (sheet (take 16384 s) 0) (sym reading ∙ f))
 
-  module _ {n : ℕ} (f : w ≡ At n) where
+  module _ {n : ℕ} (f : w ≡ Ok n) where
     end : (t : Sheet) × (sheet (take 16384 s) 0 ≡ got t n)
-    end = left_got (sheet (take 16384 s) 0) reading f
+    end = left_got (sheet (take 16384 s) 0) (sym reading ∙ f)
 
     pub ends_whole : n ≡ length s → count (length s) ≡ sheet_said s
     unfolding sheet_said answer_of sheet_of ended

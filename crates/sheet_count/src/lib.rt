@@ -2,12 +2,11 @@
 #![tactic(auto)]
 
 ghost use Rattle.std.specs.Prelude.{◌≡◌, ◌&&◌};
-ghost use Rattle.model.specs.Lists.{numbers};
-ghost use Rattle.model.specs.Sheet.{W, below, small, signed, coefficient, sum, at_most_step, remainder_step, step, steps, all};
+ghost use Rattle.model.specs.Sheet.{W, below, small, signed, sum, at_most_step, remainder_step, step, steps};
 ghost use Rattle.sheet_walk.specs.Walks.{after};
 
 use layout::{AND, AT_MOST, MOST_STEPS, NOT, OR, REMAINDER};
-use sheet_walk::{Walk, any_word, below, between, refuse, set_below, word_at};
+use sheet_walk::{Bad, all_good, any_word, below, between, set_below};
 
 const LARGEST_MODULUS: u32 = 1000;
 
@@ -18,90 +17,54 @@ fn coefficient_good(w: u32) -> bool
     ((1 <= w) & (w <= 0x7FFF)) | (0xFFFF_8000 <= w)
 }
 
-// Past `n` coefficients.
-fn coefficients(words: &[u32], first: Walk, n: u32) -> Walk
-    ensures { result ≡ after (all coefficient (numbers n)) words.now first }
+// The index after the marks of states below `p` and a coefficient for each mark.
+fn sum(words: &[u32], at: usize, p: u32) -> Result<usize, Bad>
+    ensures { result ≡ after (sum p) words.now at }
 {
-    let Walk::At(start) = first else {
-        return first;
-    };
-    let mut at = start;
-    let mut i = 0;
-    while i < n {
-        if at >= words.len() {
-            return Walk::Bad(at);
-        }
-        if !coefficient_good(words[at]) {
-            return Walk::Bad(at);
-        }
-        at += 1;
-        i += 1;
-    }
-    Walk::At(at)
+    let (marks, at) = set_below(words, at, p)?;
+    all_good(words, at, bits::size(marks), coefficient_good)
 }
 
-// Past the marks of states below `p` and a coefficient for each mark.
-fn sum(words: &[u32], walk: Walk, p: u32) -> Walk
-    ensures { result ≡ after (sum p) words.now walk }
+// The index after the fields of an at-most step: a sum and a bound.
+fn at_most(words: &[u32], at: usize, p: u32) -> Result<usize, Bad>
+    ensures { result ≡ after (at_most_step p) words.now at }
 {
-    let low = word_at(words, walk);
-    let high = word_at(words, any_word(words, walk));
-    let n = bits::size(bits::of_words(low, high));
-    coefficients(words, set_below(words, walk, p), n)
+    let at = sum(words, at, p)?;
+    let (_, next) = any_word(words, at)?;
+    Ok(next)
 }
 
-// Past the fields of an at-most step: a sum and a bound.
-fn at_most(words: &[u32], walk: Walk, p: u32) -> Walk
-    ensures { result ≡ after (at_most_step p) words.now walk }
+// The index after the fields of a remainder step: a sum, a modulus and a remainder below it.
+fn remainder(words: &[u32], at: usize, p: u32) -> Result<usize, Bad>
+    ensures { result ≡ after (remainder_step p) words.now at }
 {
-    any_word(words, sum(words, walk, p))
+    let at = sum(words, at, p)?;
+    let (modulus, at) = between(words, at, 1, LARGEST_MODULUS)?;
+    below(words, at, modulus)
 }
 
-// Past the fields of a remainder step: a sum, a modulus and a remainder below it.
-fn remainder(words: &[u32], walk: Walk, p: u32) -> Walk
-    ensures { result ≡ after (remainder_step p) words.now walk }
+// The index after step `i`, by its kind.
+fn step(words: &[u32], at: usize, p: u32, i: u32) -> Result<usize, Bad>
+    ensures { result ≡ after (step p i) words.now at }
 {
-    let summed = sum(words, walk, p);
-    let modulus = word_at(words, summed);
-    below(words, between(words, summed, 1, LARGEST_MODULUS), modulus)
-}
-
-// Past step `i`, by its kind. A missing kind reads as 0, which is none.
-fn step(words: &[u32], walk: Walk, p: u32, i: u32) -> Walk
-    ensures { result ≡ after (step p i) words.now walk }
-{
-    let fields = any_word(words, walk);
-    match word_at(words, walk) {
+    let (kind, fields) = any_word(words, at)?;
+    match kind {
         AT_MOST => at_most(words, fields, p),
         REMAINDER => remainder(words, fields, p),
         NOT => below(words, fields, i),
-        AND => below(words, below(words, fields, i), i),
-        OR => below(words, below(words, fields, i), i),
-        _ => refuse(walk),
+        AND => below(words, below(words, fields, i)?, i),
+        OR => below(words, below(words, fields, i)?, i),
+        _ => Err(Bad(at)),
     }
 }
 
-// Past `n` steps.
-fn steps(words: &[u32], first: Walk, n: u32, p: u32) -> Walk
-    ensures { result ≡ after (all (step p) (numbers n)) words.now first }
+// The index after a count part over `p` states.
+pub fn count_part(words: &[u32], at: usize, p: u32) -> Result<usize, Bad>
+    ensures { result ≡ after (steps p) words.now at }
 {
-    let mut walk = first;
-    let mut i = 0;
-    while i < n {
-        // Where the walk has stopped, n need not be in its range.
-        let Walk::At(_) = walk else {
-            return walk;
-        };
-        walk = step(words, walk, p, i);
-        i += 1;
+    let (n, mut at) = between(words, at, 1, MOST_STEPS)?;
+    for i in 0..n {
+        at = step(words, at, p, i)?;
     }
-    walk
-}
-
-// Past a count part over `p` states.
-pub fn count_part(words: &[u32], walk: Walk, p: u32) -> Walk
-    ensures { result ≡ after (steps p) words.now walk }
-{
-    let n = word_at(words, walk);
-    steps(words, between(words, walk, 1, MOST_STEPS), n, p)
+    Ok(at)
 }

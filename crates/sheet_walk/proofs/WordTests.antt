@@ -1,37 +1,30 @@
 -- The code's tests of one word are the definition's.
-use mathlib.Core.Path.{◌≡◌, refl, sym}
+use mathlib.Core.Path.{◌≡◌, sym}
 use mathlib.Core.Logic.{by_cases}
-use mathlib.Core.Bool.{true, ◌&&◌, ◌||◌, and-false, and_assoc, or-false}
-use mathlib.Core.List.{List}
+use mathlib.Core.Bool.{◌&&◌, ◌||◌, and-false, and_assoc, or-false}
 use Prim.Native.Nat.{ℕ, ◌-◌, ◌/◌, ◌^◌, ◌≤◌, ◌<◌}
 use native.Mathlib.Decide.{dec_lt}
 use native.Mathlib.Nat.{div-lt_iff_lt-mul, one-mul}
 use native.Mathlib.Omega.{arith}
 use lib.Dec.{eqb, ltb, leb}
-use lib.ListN.{get_or}
 use lib.Pow.{pow_pos, pow_mono}
 use borrow.Author.Tests as tests
-use Rattle.sheet_walk.specs.declared.Walk.{Walk}
-use Rattle.sheet_walk.specs.declared.Walk.TheVariants.{At, Bad}
+use Rattle.std.specs.Prelude.{Option, Some, None}
+use Rattle.std.specs.Option.{SomeIff, unwrap_or}
 use Rattle.model.specs.Sheet.{W, below, arc_of, arc_ok, small, signed}
 use Rattle.model.proofs.Tests.{yes_like, same, eqb_yes}
-use Rattle.sheet_walk.specs.Walks.{word_at}
 
--- no bit at k or above
-pub wide : (w k : ℕ) → w < W → 32 ≤ k → true ≡ ltb w (2 ^ k)
-wide w k h l = let p : W ≤ 2 ^ k = pow_mono l in sym (tests.lt-ltb w (2 ^ k) (omega arith))
-
-pub shifted : (w k : ℕ) → eqb (w / 2 ^ k) 0 ≡ ltb w (2 ^ k)
-shifted w k =
+-- no bit at k or above: what a shift leaves, if there is so wide a shift
+pub shifted : (w k : ℕ) → w < W → (o : Option ℕ) → SomeIff o (k < 32) (w / 2 ^ k) → eqb (unwrap_or o 0) 0 ≡ ltb w (2 ^ k)
+shifted w k small None h =
+    let wide : 32 ≤ k = by_cases (dec_lt k 32) (λ l. absurd (h l)) (λ l. omega arith) in
+    let p : W ≤ 2 ^ k = pow_mono wide in
+    sym (tests.lt-ltb w (2 ^ k) (omega arith))
+shifted w k small (Some x) h =
     let (below_one, back) = div-lt_iff_lt-mul {x = w} {y = 1} (pow_pos k) in
-    yes_like _ _ (λ t. tests.lt-ltb w (2 ^ k) (rw one-mul at (below_one (omega (arith, same (w / 2 ^ k) 0 t)))))
-    (λ t. eqb_yes {m = w / 2 ^ k} {n = 0} (omega (arith, back (rw one-mul (tests.ltb-true w (2 ^ k) t)))))
-
--- any word
-pub any : (s : List ℕ) → ((i : ℕ) → get_or s i 0 < W) → (w : Walk) → true ≡ below W (word_at s w)
-unfolding word_at
-any s h (At i) = sym (tests.lt-ltb (get_or s i 0) W (h i))
-any s h (Bad k) = refl
+    yes_like _ _
+    (λ t. tests.lt-ltb w (2 ^ k) (rw one-mul at (below_one (omega (arith, same x 0 t, h.1)))))
+    (λ t. eqb_yes {m = x} {n = 0} (omega (arith, h.1, back (rw one-mul (tests.ltb-true w (2 ^ k) t)))))
 
 -- a coefficient: its two ranges as words
 pub coefficient_test : (w : ℕ) → w < W → (leb 1 w && leb w 32767) || leb 4294934528 w ≡ below W w && small (signed w)

@@ -1,96 +1,97 @@
-// A walk over a sheet's words, by index. Each function takes a walk on past a word or two; a walk that has met a bad word
-// stays there, so that one part of a sheet is checked after another with no case for a refusal in between.
+// Reading a sheet's words, by index. Each function reads on from an index, and gives the next one, or the first bad word.
 #![tactic(auto)]
 
-ghost use Rattle.std.specs.Prelude.{◌≡◌, ◌^◌, ltb};
-ghost use Rattle.model.specs.Sheet.{W, word, between, below, set_below};
-ghost use Rattle.sheet_walk.specs.Walks.{word_at, after, refused};
+ghost use Rattle.std.specs.Prelude.{◌≡◌, Bool, ℕ, ◌^◌, ltb};
+ghost use Rattle.model.specs.Lists.{numbers};
+ghost use Rattle.model.specs.Sheet.{W, word, between, below, set_below, all};
+ghost use Rattle.model.specs.declared.Refusal.TheVariants.{Sheet};
+ghost use Rattle.sheet_walk.specs.Walks.{after, word_after, set_after, Tests};
 
-// `At` a word, with every word before it in its range; or stopped at the first `Bad` one, which is out of its range or missing.
-#[derive(Clone, Copy)]
-pub enum Walk {
-    At(usize),
-    Bad(usize),
-}
+use model::Refusal;
 
-// The word that a walk stands at, 0 where there is none.
-pub fn word_at(words: &[u32], walk: Walk) -> u32
-    ensures { result ≡ word_at words.now walk }
-{
-    let Walk::At(i) = walk else {
-        return 0;
-    };
-    if i < words.len() { words[i] } else { 0 }
-}
+// The index of the first word that is out of its range or missing.
+#[derive(Clone, Copy, PartialEq, Eq)]
+pub struct Bad(pub usize);
 
-// Past a word, where there is one and it is `good`.
-fn pass(words: &[u32], walk: Walk, good: bool) -> Walk
-    ensures { result ≡ after (word (λ w. good)) words.now walk }
-{
-    let Walk::At(i) = walk else {
-        return walk;
-    };
-    if i >= words.len() {
-        return Walk::Bad(i);
+impl From<Bad> for Refusal {
+    ghost from_gives = { λ bad refusal. refusal ≡ Sheet bad.0 };
+
+    // Refusal 9 at that index.
+    fn from(bad: Bad) -> Refusal {
+        Refusal::Sheet(bad.0)
     }
-    if good { Walk::At(i + 1) } else { Walk::Bad(i) }
 }
 
-// Past any word.
-pub fn any_word(words: &[u32], walk: Walk) -> Walk
-    ensures { result ≡ after (word (below W)) words.now walk }
+// A `good` word, and the index after it.
+pub fn word<F: Fn(u32) -> bool>(words: &[u32], at: usize, good: F) -> Result<(u32, usize), Bad>
+    requires { F.IsAlwaysCallable good }
+    ensures { (ok : ℕ → Bool) → Tests (F.post good) ok → result ≡ word_after (word ok) words.now at }
 {
-    pass(words, walk, true)
-}
-
-// Past a word from `low` to `high`.
-pub fn between(words: &[u32], walk: Walk, low: u32, high: u32) -> Walk
-    ensures { result ≡ after (word (between low high)) words.now walk }
-{
-    let w = word_at(words, walk);
-    pass(words, walk, (low <= w) & (w <= high))
-}
-
-// Past a word below `n`.
-pub fn below(words: &[u32], walk: Walk, n: u32) -> Walk
-    ensures { result ≡ after (word (below n)) words.now walk }
-{
-    pass(words, walk, word_at(words, walk) < n)
-}
-
-// Stopped where it stands: no word will do here.
-pub fn refuse(walk: Walk) -> Walk
-    ensures { result ≡ refused walk }
-{
-    match walk {
-        Walk::At(i) => Walk::Bad(i),
-        Walk::Bad(i) => Walk::Bad(i),
+    match words.get(at) {
+        Some(&w) if good(w) => Ok((w, at + 1)),
+        _ => Err(Bad(at)),
     }
+}
+
+// Any word, and the index after it.
+pub fn any_word(words: &[u32], at: usize) -> Result<(u32, usize), Bad>
+    ensures { result ≡ word_after (word (below W)) words.now at }
+{
+    word(words, at, |_| true)
+}
+
+// A word from `low` to `high`, and the index after it.
+pub fn between(words: &[u32], at: usize, low: u32, high: u32) -> Result<(u32, usize), Bad>
+    ensures { result ≡ word_after (word (between low high)) words.now at }
+{
+    word(words, at, |w| (low <= w) & (w <= high))
+}
+
+// The index after a word below `n`.
+pub fn below(words: &[u32], at: usize, n: u32) -> Result<usize, Bad>
+    ensures { result ≡ after (word (below n)) words.now at }
+{
+    let (_, next) = word(words, at, |w| w < n)?;
+    Ok(next)
 }
 
 // Whether a word has no bit at `k` or above.
 fn within_bits(w: u32, k: u32) -> bool
     ensures { result ≡ ltb w (2 ^ k) }
 {
-    if k >= 32 {
-        return true;
-    }
-    w >> k == 0
+    w.checked_shr(k).unwrap_or(0) == 0
 }
 
-// Past a word with no bit at `k` or above.
-fn bits(words: &[u32], walk: Walk, k: u32) -> Walk
-    ensures { result ≡ after (word (below (2 ^ k))) words.now walk }
+// A word with no bit at `k` or above, and the index after it.
+fn bits_below(words: &[u32], at: usize, k: u32) -> Result<(u32, usize), Bad>
+    ensures { result ≡ word_after (word (below (2 ^ k))) words.now at }
 {
-    pass(words, walk, within_bits(word_at(words, walk), k))
+    word(words, at, |w| within_bits(w, k))
 }
 
-// Past a set of numbers below `k`: its low word, then its high one.
-pub fn set_below(words: &[u32], walk: Walk, k: u32) -> Walk
-    ensures { result ≡ after (set_below k) words.now walk }
+// A set of numbers below `k`, from its low word and its high one, and the index after them.
+pub fn set_below(words: &[u32], at: usize, k: u32) -> Result<(u64, usize), Bad>
+    ensures { result ≡ set_after k words.now at }
 {
-    if k <= 32 {
-        return bits(words, bits(words, walk, k), 0);
+    let (low, at) = bits_below(words, at, k.min(32))?;
+    let (high, at) = bits_below(words, at, k.saturating_sub(32))?;
+    Ok((bits::of_words(low, high), at))
+}
+
+// The index after `n` good words.
+pub fn all_good<F: Fn(u32) -> bool>(
+    words: &[u32],
+    first: usize,
+    n: u32,
+    good: F,
+) -> Result<usize, Bad>
+    requires { F.IsAlwaysCallable good }
+    ensures { (ok : ℕ → Bool) → Tests (F.post good) ok → result ≡ after (all (λ i. word ok) (numbers n)) words.now first }
+{
+    let mut at = first;
+    for _ in 0..n {
+        let (_, next) = word(words, at, &good)?;
+        at = next;
     }
-    bits(words, bits(words, walk, 32), k - 32)
+    Ok(at)
 }

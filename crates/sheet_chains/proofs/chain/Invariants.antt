@@ -5,6 +5,3 @@ use Rattle.sheet_chains.proofs.chain.Given as goal
 -- the rules from j on are in the index
 abbrev pub invariant-loop-j : goal.invariant-loop-j
 invariant-loop-j l = Chaining l.sheet l.fn.index l.index l.j
-
-abbrev pub decreases-loop-j : goal.decreases-loop-j
-decreases-loop-j l = l.j

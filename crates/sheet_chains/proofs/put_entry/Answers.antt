@@ -17,4 +17,4 @@ pub shape_of-index : goal.shape_of-index
 shape_of-index c = simp length-set
 
 pub returns : goal.returns
-returns c = entry_put _ _ _ _ (rw (c.at.ensures, c.field.ensures, c.wide-begin.ensures) at c.key_of-key.ensures.key)
+returns c = entry_put _ _ _ _ (rw (c.at.ensures, c.field.ensures) at c.key_of-key.ensures.key)

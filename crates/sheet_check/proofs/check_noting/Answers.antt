@@ -1,22 +1,29 @@
--- `check_noting` meets its contract: the answer is by where the walk over the part of the words that may be a sheet ends.
+-- `check_noting` meets its contract: the answer is by where the part of the words that may be a sheet is read to.
 use native.Mathlib.Omega.{arith}
-use lib.ListN.{length-take}
-use borrow.Author.Rules.{rules}
+use Rattle.std.proofs.lemmas.Result.{err_from_is_err_and}
 use Rattle.model.specs.Answers.{said_refusal, said}
 use Rattle.sheet_check.proofs.Ends.{ends_bad, ends_whole, ends_early, part_whole}
 use Rattle.sheet_check.proofs.check_noting.Goals as goal
 
-pub slice_bounds-whole-end : goal.slice_bounds-whole-end
-slice_bounds-whole-end c = simp length-take (omega (arith, c.within-limit.ensures))
-
-pub returns-then-i-n : goal.returns-then-i-n
+pub returns-in_err-end : goal.returns-in_err-end
 unfolding said said_refusal
-returns-then-i-n c = search (ends_whole, part_whole, rules)
+returns-in_err-end c =
+    let p = err_from_is_err_and c.from_residual.result c.from_residual.ensures.1 in
+    record {
+      answer = rw (p.1, p.2) (ends_bad c.args.sheet.now (omega arith) c.whole.ensures.end c.in_err-end.was);
+      places = part_whole (omega arith) c.whole.ensures.places;
+    }
 
-pub returns-in-Bad : goal.returns-in-Bad
-unfolding said said_refusal
-returns-in-Bad c = search (ends_bad, part_whole, rules)
+pub returns-then-end-n : goal.returns-then-end-n
+unfolding said
+returns-then-end-n c = record {
+  answer = ends_whole c.args.sheet.now (omega arith) c.whole.ensures.end c.in_ok-end.was c.if-end-n.true;
+  places = part_whole (omega arith) c.whole.ensures.places;
+}
 
-pub returns-else-i-n : goal.returns-else-i-n
+pub returns : goal.returns
 unfolding said said_refusal
-returns-else-i-n c = search (ends_early, part_whole, rules)
+returns c = record {
+  answer = ends_early c.args.sheet.now (omega arith) c.whole.ensures.end c.in_ok-end.was c.if-end-n.false;
+  places = part_whole (omega arith) c.whole.ensures.places;
+}

@@ -1,27 +1,18 @@
 -- `sheet_count::remainder` meets its contract.
-use mathlib.Core.List.{[]}
-use borrow.Author.Rules.{rules}
 use Rattle.model.specs.Sheet.{remainder_step}
-use Rattle.sheet_walk.proofs.WalkLaws.{then-word, then_part, then-last}
+use Rattle.sheet_walk.proofs.WalkLaws.{part_stops, part_passes, word_stops, word_passes, last}
 use Rattle.sheet_count.proofs.remainder.Goals as goal
 
-pub sum-summed-requires : goal.sum-summed-requires
+pub returns-in_err-at : goal.returns-in_err-at
 unfolding remainder_step
-sum-summed-requires c = search rules
+returns-in_err-at c = part_stops _ _ _ c.sum.ensures c.in_err-at.was c.from_residual.ensures
 
-pub word_at-modulus-requires : goal.word_at-modulus-requires
+pub returns-in_err-modulus : goal.returns-in_err-modulus
 unfolding remainder_step
-word_at-modulus-requires c = search rules
-
-pub between-requires : goal.between-requires
-unfolding remainder_step
-between-requires c = search rules
-
-pub below-requires : goal.below-requires
-unfolding remainder_step
-below-requires c = search rules
+returns-in_err-modulus c = part_passes _ _ _ c.sum.ensures c.in_ok-at.was (λ cs.
+    word_stops _ _ _ c.between.ensures c.in_err-modulus.was c.from_residual-in_err-modulus.ensures)
 
 pub returns : goal.returns
 unfolding remainder_step
-returns c = then_part _ _ _ _ [] c.sum-summed.ensures (λ cs.
-    then-word _ _ _ _ c.word_at-modulus.ensures c.between.ensures (then-last _ _ _ _ c.below.ensures))
+returns c = part_passes _ _ _ c.sum.ensures c.in_ok-at.was (λ cs.
+    word_passes _ _ _ c.between.ensures c.in_ok-modulus.was (last _ _ _ c.below.ensures))

@@ -1,36 +1,35 @@
 -- `sheet_order::order_part` meets its contract.
-use mathlib.Core.List.{[]}
+use mathlib.Core.Path.{◌∙◌}
 use borrow.Author.Rules.{rules}
-use Rattle.model.specs.Sheet.{order}
-use Rattle.sheet_walk.proofs.WalkLaws.{then-word, then_part, then-last}
+use Prim.Native.Nat.{ℕ}
+use Rattle.model.specs.Lists.{numbers}
+use Rattle.model.specs.Sheet.{arc_of, arc_ok, arc, order}
+use Rattle.model.proofs.ListLaws.{length_from}
+use Rattle.sheet_walk.proofs.WalkLaws.{word_stops, word_passes, set_stops, set_passes, last, all_words}
 use Rattle.sheet_order.proofs.order_part.Goals as goal
 
-pub word_at-m-requires : goal.word_at-m-requires
+pub returns-in_err-m : goal.returns-in_err-m
 unfolding order
-word_at-m-requires c = search rules
+returns-in_err-m c = word_stops _ _ _ c.between.ensures c.in_err-m.was c.from_residual.ensures
 
-pub between-requires : goal.between-requires
+pub returns-in_err-at : goal.returns-in_err-at
 unfolding order
-between-requires c = search rules
+returns-in_err-at c =
+    word_passes _ _ _ c.between.ensures c.in_ok-m.was
+    (set_stops _ _ _ _ c.set_below.ensures c.in_err-at.was c.from_residual-in_err-at.ensures)
 
-pub set_below-accepting-requires : goal.set_below-accepting-requires
+pub returns-in_err-n : goal.returns-in_err-n
 unfolding order
-set_below-accepting-requires c = search rules
-
-pub word_at-n-requires : goal.word_at-n-requires
-unfolding order
-word_at-n-requires c = search rules
-
-pub between-requires-2 : goal.between-requires-2
-unfolding order
-between-requires-2 c = search rules
-
-pub arcs-requires : goal.arcs-requires
-unfolding order
-arcs-requires c = search rules
+returns-in_err-n c =
+    word_passes _ _ _ c.between.ensures c.in_ok-m.was
+    (set_passes _ _ _ _ c.set_below.ensures c.in_ok-at.was (λ l _ _.
+    word_stops _ _ _ c.between-2.ensures c.in_err-n.was c.from_residual-in_err-n.ensures))
 
 pub returns : goal.returns
-unfolding order
-returns c = then-word _ _ _ _ c.word_at-m.ensures c.between.ensures
-    (then_part _ _ _ _ [] c.set_below-accepting.ensures (λ accepting.
-    then-word _ _ _ _ c.word_at-n.ensures c.between-2.ensures (then-last _ _ _ _ c.arcs.ensures)))
+unfolding order arc
+returns c =
+    let ok = arc_ok c.args.p c.in_ok-m.m in
+    let arcs = c.all_good.ensures ok (λ w b small k. search rules) ∙ all_words ok (λ (i : ℕ). arc_of) _ (numbers _) _ (length_from _ 0) _ in
+    word_passes _ _ _ c.between.ensures c.in_ok-m.was
+    (set_passes _ _ _ _ c.set_below.ensures c.in_ok-at.was (λ l _ _.
+    word_passes _ _ _ c.between-2.ensures c.in_ok-n.was (last _ _ _ arcs)))

@@ -1,17 +1,25 @@
 -- `sheet_rules::rules` meets its contract.
-use borrow.Author.Rules.{rules}
-use Rattle.sheet_walk.proofs.WalkLaws.{loop_stopped, loop_done}
-use Rattle.sheet_rules.proofs.PlaceLaws.{noting_none, noting_more, noting_stopped, noting_all}
+use mathlib.Core.Path.{sym, ◌∙◌}
+use native.Mathlib.Omega.{arith}
+use Rattle.sheet_walk.proofs.WalkLaws.{left_bad, loop_bad, loop_done}
+use Rattle.sheet_rules.proofs.PlaceLaws.{noting_none, noting_more, noting_stops, noting_all}
 use Rattle.sheet_rules.proofs.rules.Goals as goal
 
 pub loop-i-init : goal.loop-i-init
 loop-i-init c = noting_none
 
-pub returns-in_default : goal.returns-in_default
-returns-in_default c = search (loop_stopped, noting_stopped, rules)
+pub returns-in_err-at : goal.returns-in_err-at
+returns-in_err-at c =
+    let h = c.loop-i.invariant in
+    record {
+      end = loop_bad _ _ _ _ _ h.leads (omega arith) (left_bad _ (sym c.rule.ensures ∙ c.in_err-at.was)) c.from_residual.ensures;
+      places = noting_stops h (omega arith) c.rule.ensures c.in_err-at.was;
+    }
 
 pub loop-i-preserved : goal.loop-i-preserved
-loop-i-preserved c = search (noting_more, rules)
+loop-i-preserved c = noting_more c.loop-i.invariant (omega arith) c.rule.ensures c.in_ok-at.was c.put_place.ensures
 
 pub returns : goal.returns
-returns c = search (loop_done, noting_all, rules)
+returns c =
+    let h = c.loop-i.invariant in
+    record { end = loop_done _ _ _ _ _ h.leads (omega arith); places = noting_all h (omega arith) }

@@ -1,11 +1,16 @@
 -- `sheet_walk::set_below` meets its contract.
-use mathlib.Core.Path.{refl}
 use native.Mathlib.Omega.{arith}
-use Rattle.sheet_walk.proofs.WalkLaws.{then_set}
+use mathlib.Core.Path.{refl}
+use Rattle.sheet_walk.proofs.WalkLaws.{low_stops, high_stops, set_read}
 use Rattle.sheet_walk.proofs.set_below.Goals as goal
 
-pub returns-then-k-le32 : goal.returns-then-k-le32
-returns-then-k-le32 c = then_set _ _ _ _ 0 (omega arith) (omega arith) c.bits.ensures c.bits-then-k-le32.ensures
+pub returns-in_err-low : goal.returns-in_err-low
+returns-in_err-low c = low_stops _ _ _ (omega arith) refl c.bits_below.ensures c.in_err-low.was c.from_residual.ensures
+
+pub returns-in_err-high : goal.returns-in_err-high
+returns-in_err-high c = high_stops _ _ _ (omega arith) (omega arith) c.bits_below.ensures c.in_ok-low.was c.bits_below-2.ensures
+    c.in_err-high.was c.from_residual-in_err-high.ensures
 
 pub returns : goal.returns
-returns c = then_set _ _ _ 32 _ (omega arith) refl c.bits-2.ensures c.bits-3.ensures
+returns c = set_read _ _ _ (omega arith) (omega arith) c.bits_below.ensures c.in_ok-low.was c.bits_below-2.ensures c.in_ok-high.was
+    c.of_words.ensures

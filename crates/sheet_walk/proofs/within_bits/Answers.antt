@@ -1,10 +1,7 @@
 -- `sheet_walk::within_bits` meets its contract.
-use borrow.Author.Rules.{rules}
-use Rattle.sheet_walk.proofs.WordTests.{wide, shifted}
+use native.Mathlib.Omega.{arith}
+use Rattle.sheet_walk.proofs.WordTests.{shifted}
 use Rattle.sheet_walk.proofs.within_bits.Goals as goal
 
-pub returns-then-k-ge32 : goal.returns-then-k-ge32
-returns-then-k-ge32 c = search (wide, rules)
-
 pub returns : goal.returns
-returns c = search (shifted, rules)
+returns c = rw c.unwrap_or.ensures (shifted _ _ (omega arith) _ c.checked_shr.ensures)
