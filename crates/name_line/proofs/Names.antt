@@ -1,11 +1,11 @@
 -- Whether bytes are a name, byte by byte, and what is asked of a line.
-use mathlib.Core.Path.{◌≡◌, refl, ◌∙◌}
+use mathlib.Core.Path.{◌≡◌, refl}
 use mathlib.Core.Logic.{◌≢◌}
-use mathlib.Core.Bool.{true, false, ◌&&◌}
+use mathlib.Core.Bool.{true, false}
 use mathlib.Core.List.{List, [], ◌∷◌}
 use Prim.Native.Nat.{ℕ, ◌-◌, ◌≤◌, ◌<◌}
 use native.Mathlib.Omega.{arith}
-use lib.ListN.{length, get_or, drop}
+use lib.ListN.{length, get_or}
 use borrow.Author.Tests.{le-leb, lt-leb, eq-eqb, ne_eqb}
 use Rattle.model.specs.Bytes.{letter_byte, name_byte, is_name}
 use Rattle.model.specs.Lists.{every}
@@ -16,17 +16,14 @@ unfolding is_name
 name_none [] e = refl
 name_none (b ∷ s) e = absurd (omega arith)
 
-name-first : (s : List ℕ) → 0 < length s → is_name s ≡ (letter_byte (get_or s 0 0) && every name_byte (drop 1 s))
-unfolding is_name
-name-first [] h = absurd (omega arith)
-name-first (b ∷ s) h = refl
+module _ {s rest : List ℕ} {b : ℕ} (split : s ≡ b ∷ rest) where
+  pub name_no : letter_byte b ≡ false → is_name s ≡ false
+  unfolding is_name
+  name_no e = rw (split, e)
 
-module _ (s : List ℕ) (some : 0 < length s) where
-  pub name_no : letter_byte (get_or s 0 0) ≡ false → is_name s ≡ false
-  name_no e = name-first s some ∙ rw e
-
-  pub name_yes : letter_byte (get_or s 0 0) ≡ true → is_name s ≡ every name_byte (drop 1 s)
-  name_yes e = name-first s some ∙ rw e
+  pub name_yes : letter_byte b ≡ true → is_name s ≡ every name_byte rest
+  unfolding is_name
+  name_yes e = rw (split, e)
 
 module _ (list : List ℕ) (end : ℕ) (name : List ℕ) where
   pub line-long : 24 < length name → named_line list end name ≡ false

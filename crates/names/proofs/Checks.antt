@@ -12,21 +12,32 @@ use lib.ListN.{length, get_or, take, drop, drop_of_length-le}
 use lib.Seq.{drop-cons, length-take-le, get_or-take}
 use borrow.Author.Tests.{lt-ltb, le-ltb, eq-eqb, ne_eqb}
 use Rattle.model.specs.Answers.{Checked, passes, refuses, said, said_refusal, answer_of}
-use Rattle.model.specs.declared.Answer.TheVariants.{Count, Error}
+use Rattle.std.specs.Prelude.{Ok, Err, Option, is_some}
 use Rattle.model.specs.declared.Refusal.TheVariants.{NameList}
 use Rattle.model.specs.Bytes.{is_name, same_bytes}
 use Rattle.model.specs.Calls.{names_said}
 use Rattle.model.specs.Names.{lines, bare, name_of, number_from, good_line, lines_checked, names_of}
-use Rattle.model.proofs.Tests.{eqb_like}
+use Rattle.model.proofs.Tests.{never, eqb_like}
 use Rattle.model.proofs.NameLaws.{same-bytes_refl, number_at}
 use Rattle.offsets.specs.Lines.{line, start_of, line_count, Indexed}
 use Rattle.offsets.proofs.LineLaws.{Begins, start-next, begins-some, begins_none, begins-at}
 use Rattle.offsets.proofs.IndexLaws.{indexed-last}
-use Rattle.tags.specs.Tables.{name_by, first_of, bucket, along, linked, TableOf}
+use Rattle.tags.specs.declared.Table.{Table}
+use Rattle.tags.specs.Tables.{name_by, first_of, bucket, along, linked, tag_or_none, TableOf}
 use Rattle.tags.proofs.TagLaws.{name_is}
 use Rattle.tags.proofs.ChainLaws.{Found, found}
 use Rattle.tags.proofs.TableLaws.{table_more}
 use Rattle.name_line.specs.Named.{named_line}
+
+-- ---- whether a tag is told
+
+some_tag : (r : ℕ) → is_some (tag_or_none r) ≡ true → r ≢ 0
+some_tag zero e = never e
+some_tag (suc r) e = λ z. absurd (omega arith)
+
+no_tag : (r : ℕ) → is_some (tag_or_none r) ≡ false → r ≡ 0
+no_tag zero e = refl
+no_tag (suc r) e = never (sym e)
 
 -- ---- a line
 
@@ -77,7 +88,7 @@ regroup true false c d = refl
 regroup false b c d = refl
 
 -- `name` is the name on line k, by a table of the tags before
-module _ {list table : List ℕ} {k : ℕ} (made : TableOf list table k) (h : k < line_count list) {name : List ℕ}
+module _ {list : List ℕ} {table : Table} {k : ℕ} (made : TableOf list table k) (h : k < line_count list) {name : List ℕ}
     (named : name ≡ name_by list table (k + 1)) where
   own_name : name ≡ name_of list (k + 1)
   own_name = named ∙ name_is list table (k + 1) made.index (omega arith) (omega arith)
@@ -87,33 +98,36 @@ module _ {list table : List ℕ} {k : ℕ} (made : TableOf list table k) (h : k 
   name-there = let m : k + 1 - 1 ≡ k = omega arith in sym (rw m at own_name)
 
   good-is : good_line (lines list) k (line list k) ≡
-      (named_line list (get_or table (k + 1) 0) name && eqb (number_from 0 name (take k (lines list))) 0)
+      (named_line list (get_or table.starts (k + 1) 0) name && eqb (number_from 0 name (take k (lines list))) 0)
   unfolding good_line named_line
-  good-is = rw (lt-ltb k 64 (omega arith), name-there, indexed-last list table made.index k h)
-      (regroup (leb (length name) 24) (eqb (get_or list (get_or table (k + 1) 0 - 1) 0) 10) (is_name name)
+  good-is = rw (lt-ltb k 64 (omega arith), name-there, indexed-last list table.starts made.index k h)
+      (regroup (leb (length name) 24) (eqb (get_or list (get_or table.starts (k + 1) 0 - 1) 0) 10) (is_name name)
       (eqb (number_from 0 name (take k (lines list))) 0))
 
   -- what is told of the line, and the table then
-  abbrev Told : Bool → List ℕ → Type 0
+  abbrev Told : Bool → Table → Type 0
   Told good after = (good ≡ good_line (lines list) k (line list k)) × TableOf list after (cond good (k + 1) k)
 
-  module _ {well : Bool} (asked : well ≡ named_line list (get_or table (k + 1) 0) name) where
+  module _ {well : Bool} (asked : well ≡ named_line list (get_or table.starts (k + 1) 0) name) where
     pub told_unnamed : well ≡ false → Told false table
     told_unnamed e = (sym (good-is ∙ rw (sym asked ∙ e)), made)
 
-    module _ (e : well ≡ true) {chain r : ℕ} (is : chain ≡ bucket name) (small : chain < 64)
-        (along-is : r ≡ along list table name 64 (first_of table chain)) where
+    module _ (e : well ≡ true) {chain : ℕ} {same : Option ℕ} (is : chain ≡ bucket name) (small : chain < 64)
+        (along-is : same ≡ tag_or_none (along list table name 64 (first_of table chain))) where
+      abbrev r : ℕ
+      r = along list table name 64 (first_of table chain)
+
       good_by : good_line (lines list) k (line list k) ≡ eqb r 0
-      good_by = good-is ∙ rw (sym asked ∙ e, number_is (omega arith) (found made (omega arith) name is small along-is))
+      good_by = good-is ∙ rw (sym asked ∙ e, number_is (omega arith) (found made (omega arith) name is small refl))
 
-      pub told_repeated : r ≢ 0 → Told false table
-      told_repeated n = (sym (good_by ∙ ne_eqb r 0 n), made)
+      pub told_repeated : is_some same ≡ true → Told false table
+      told_repeated n = (sym (good_by ∙ ne_eqb r 0 (some_tag r (rw along-is at n))), made)
 
-      pub told_entered : r ≡ 0 → {after : List ℕ} → after ≡ linked table chain (k + 1) → Told true after
-      told_entered z l = (sym (good_by ∙ eq-eqb r 0 z), table_more made (omega arith) (is ∙ ap bucket own_name) small l)
+      pub told_entered : is_some same ≡ false → {after : Table} → after ≡ linked table chain (k + 1) → Told true after
+      told_entered z l = (sym (good_by ∙ eq-eqb r 0 (no_tag r (rw along-is at z))), table_more made (omega arith) (is ∙ ap bucket own_name) small l)
 
 -- the table after a line that is told so
-pub after_line : (list table : List ℕ) (k : ℕ) {good b : Bool} → good ≡ b → TableOf list table (cond good (k + 1) k)
+pub after_line : (list : List ℕ) (table : Table) (k : ℕ) {good b : Bool} → good ≡ b → TableOf list table (cond good (k + 1) k)
     → TableOf list table (cond b (k + 1) k)
 after_line list table k e t = rw e at t
 
@@ -148,14 +162,14 @@ module _ (list : List ℕ) (k : ℕ) where
 
 -- ---- what the check says
 
-pub said_none : (list : List ℕ) → length list ≡ 0 → said (Error (NameList 0)) ≡ names_said list
+pub said_none : (list : List ℕ) → length list ≡ 0 → said (Err (NameList 0)) ≡ names_said list
 unfolding said said_refusal names_said names_of answer_of
 said_none [] h = refl
 said_none (b ∷ s) h = absurd (omega arith)
 
 module _ (list starts : List ℕ) (index : Indexed list starts) (k : ℕ) (e : names_of list ≡ checked-from list k) where
   pub said_bad : k < line_count list → good_line (lines list) k (line list k) ≡ false → said
-      (Error (NameList (get_or starts k 0))) ≡ names_said list
+      (Err (NameList (get_or starts k 0))) ≡ names_said list
   unfolding said said_refusal names_said answer_of
   said_bad h b = rw (e, check_bad list k (omega arith) b, index.start k (omega arith))
 
@@ -163,12 +177,12 @@ module _ (list starts : List ℕ) (index : Indexed list starts) (k : ℕ) (e : n
     at : Begins list k (get_or starts k 0)
     at = rw (index.start k (omega arith)) (begins-at list k (omega arith))
 
-    pub said-many : get_or starts k 0 < length list → said (Error (NameList (get_or starts k 0))) ≡ names_said list
+    pub said-many : get_or starts k 0 < length list → said (Err (NameList (get_or starts k 0))) ≡ names_said list
     unfolding said said_refusal names_said answer_of
     said-many h =
         let more = begins-some list k (get_or starts k 0) at h in
         rw (e, check-many list k more (omega arith), index.start k (omega arith))
 
-    pub said-passed : length list ≤ get_or starts k 0 → said (Count k) ≡ names_said list
+    pub said-passed : length list ≤ get_or starts k 0 → said (Ok k) ≡ names_said list
     unfolding said names_said answer_of
     said-passed h = rw (e, check-end list k (begins_none list k (get_or starts k 0) at h))

@@ -5,57 +5,52 @@ ghost use Rattle.std.specs.Prelude.{◌≡◌, cond, ◌+◌, ◌<◌};
 ghost use Rattle.model.specs.Answers.{said};
 ghost use Rattle.model.specs.Calls.{names_said};
 ghost use Rattle.model.specs.Names.{lines, good_line};
-ghost use Rattle.chars.specs.Table.{table};
 ghost use Rattle.offsets.specs.Lines.{line, line_count};
 ghost use Rattle.tags.specs.Tables.{TableOf};
 
-use model::{Answer, Refusal};
+use model::Refusal;
 use name_line::named_line;
 use tags::Table;
 
 // The number of names, or the first line that is not in order.
-pub fn check(list: &[u8]) -> Answer
+pub fn check(list: &[u8]) -> Result<usize, Refusal>
     ensures { said result ≡ names_said list.now }
 {
-    if list.len() == 0 {
-        return Answer::Error(Refusal::NameList(0));
+    if list.is_empty() {
+        return Err(Refusal::NameList(0));
     }
-    let classes = chars::classes();
-    let mut tags = [0usize; tags::ENTRIES];
-    let count = offsets::index(list, &mut tags);
-    let mut good = 0;
-    while good < count {
-        if !enter(&classes, list, &mut tags, good) {
-            return Answer::Error(Refusal::NameList(tags[good]));
+    let mut table = Table::new();
+    let count = table.index(list);
+    for good in 0..count {
+        if !enter(list, &mut table, good) {
+            return Err(Refusal::NameList(table.starts[good]));
         }
-        good += 1;
     }
     // Bytes past the last line that is indexed are a 65th line.
-    let end = tags[good];
+    let end = table.starts[count];
     if end < list.len() {
-        return Answer::Error(Refusal::NameList(end));
+        return Err(Refusal::NameList(end));
     }
-    Answer::Count(good)
+    Ok(count)
 }
 
 // Whether line k is a name of at most 24 bytes and a line feed, and no line before it holds the name. If so, its tag becomes the
 // first of its chain; only that chain can hold the name.
-fn enter(classes: &[u8; 256], list: &[u8], tags: &mut Table, k: usize) -> bool
-    requires classes_value { classes.now ≡ table }
-    requires k_bound { (k < line_count list.now) × TableOf list.now tags.old k }
+fn enter(list: &[u8], table: &mut Table, k: usize) -> bool
+    requires { (k < line_count list.now) × TableOf list.now table.old k }
     ensures good { result ≡ good_line (lines list.now) k (line list.now k) }
-    ensures made { TableOf list.now tags.new (cond result (k + 1) k) }
+    ensures made { TableOf list.now table.new (cond result (k + 1) k) }
 {
     let tag = k + 1;
-    let name = tags::name_of(list, tags, tag);
-    if !named_line(classes, list, tags[tag], name) {
+    let name = table.name_of(list, tag);
+    if !named_line(list, table.starts[tag], name) {
         return false;
     }
     let chain = tags::bucket(name);
-    let first = tags[tags::AT_FIRSTS + chain];
-    if tags::find_chained(list, tags, first, name) != 0 {
+    let same = table.find_chained(list, table.firsts[chain], name);
+    if same.is_some() {
         return false;
     }
-    tags::link(tags, chain, tag);
+    table.link(chain, tag);
     true
 }

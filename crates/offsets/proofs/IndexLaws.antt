@@ -1,8 +1,8 @@
 -- The index of a name list: how it is written, the lines that it bounds, and, of a checked list, where each name lies.
 use mathlib.Core.Path.{◌≡◌, sym, ap, ◌∙◌}
 use mathlib.Core.List.{List, map}
-use Prim.Native.Nat.{ℕ, suc, ◌+◌, ◌-◌, ◌≤◌, ◌<◌}
-use native.Mathlib.Nat.{zero-add}
+use Prim.Native.Nat.{ℕ, zero, suc, ◌+◌, ◌-◌, ◌≤◌, ◌<◌}
+use native.Mathlib.Nat.{add-zero, zero-add, add-suc, suc-add}
 use native.Mathlib.Numerals.{add-one}
 use native.Mathlib.Omega.{arith}
 use lib.ListN.{length, get_or, take, drop, set, length-map, get_or-append}
@@ -12,7 +12,6 @@ use Rattle.model.specs.Lists.{from, numbers}
 use Rattle.model.specs.Names.{lines, bare, name_of, names_of}
 use Rattle.model.proofs.ListLaws.{from_next, length_from}
 use Rattle.model.proofs.NameLaws.{few-names, lines-counted}
-use Rattle.chars.proofs.TableLaws.{mapped_at}
 use Rattle.offsets.specs.Lines.{line, start_of, line_count, line_starts, Indexed}
 use Rattle.offsets.proofs.Parts.{part_bare, part_last}
 use Rattle.offsets.proofs.LineLaws.{Cut, Begins, cut_at, line_at}
@@ -31,6 +30,13 @@ module _ (list starts whole after : List ℕ) (k at : ℕ) (b : Begins list k at
   pub write-last : k ≡ line_count list → (k ≡ line_count list) × (after ≡ whole)
   unfolding from
   write-last h = let m : line_count list + 1 - k ≡ 1 = omega arith in (h, put ∙ sym (rw (m, b.start)) ∙ e)
+
+-- a function mapped over the numbers from q on
+mapped_at : (f : ℕ → ℕ) (n q k : ℕ) → k < n → get_or (map f (from n q)) k 0 ≡ f (q + k)
+unfolding from
+mapped_at f zero q k h = absurd (omega arith)
+mapped_at f (suc n) q zero h = rw add-zero
+mapped_at f (suc n) q (suc k) h = mapped_at f n (suc q) k (omega arith) ∙ rw (suc-add, add-suc)
 
 -- once written, an array of 65 entries is indexed
 pub indexed : (list before starts : List ℕ) → 65 ≤ length before → starts ≡ sets before 0 (line_starts list) → Indexed list starts

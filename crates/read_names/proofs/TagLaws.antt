@@ -11,11 +11,12 @@ use Rattle.model.proofs.Tests.{Yes, never}
 use Rattle.model.proofs.NameLaws.{same-bytes_refl, bytes_same, tag_of_name, name_of_tag}
 use Rattle.model.proofs.NameLaws as name_laws
 use Rattle.offsets.specs.Lines.{line_count}
+use Rattle.tags.specs.declared.Table.{Table}
 use Rattle.tags.specs.Tables.{name_by}
 use Rattle.tags.proofs.TagLaws.{name_is}
 use Rattle.read_names.specs.Listing.{Listing}
 
-module _ {list table : List ℕ} (listing : Listing list table) (t : ℕ) (some : 1 ≤ t) (few : t ≤ line_count list) where
+module _ {list : List ℕ} {table : Table} (listing : Listing list table) (t : ℕ) (some : 1 ≤ t) (few : t ≤ line_count list) where
   own : name_by list table t ≡ name_of list t
   own = name_is list table t listing.made.index some few
 

@@ -5,17 +5,15 @@ ghost use Rattle.std.specs.Prelude.{◌≡◌, true, ◌≤◌, length, drop};
 ghost use Rattle.model.specs.Bytes.{is_name, same_bytes};
 ghost use Rattle.model.specs.Names.{tag_of};
 ghost use Rattle.model.specs.Text.{name_at};
-ghost use Rattle.chars.specs.Table.{table};
 ghost use Rattle.offsets.specs.Lines.{line_count};
-ghost use Rattle.tags.specs.Tables.{TableOf};
+ghost use Rattle.tags.specs.Tables.{name_by, tag_or_none, empty, TableOf};
 ghost use Rattle.read_names.specs.Listing.{Listing};
 
-use read_runs::{Classes, class_at};
+use read_runs::class_at;
 use tags::Table;
 
 // Whether the name that begins at an offset, which goes on as far as it can, is the one that is given.
-pub fn named(classes: &Classes, text: &[u8], at: usize, name: &[u8]) -> bool
-    requires classes_value { classes.now ≡ table }
+pub fn named(text: &[u8], at: usize, name: &[u8]) -> bool
     requires at_in_bounds { at ≤ length text.now }
     requires name_value { is_name name.now ≡ true }
     ensures { result ≡ same_bytes name.now (name_at (drop at text.now)) }
@@ -27,29 +25,45 @@ pub fn named(classes: &Classes, text: &[u8], at: usize, name: &[u8]) -> bool
     if !offsets::same_bytes(name, &text[at..end]) {
         return false;
     }
-    let after = class_at(classes, text, end);
-    !((chars::LETTER <= after) & (after <= chars::HYPHEN))
+    match class_at(text, end) {
+        Some(after) => !after.in_name(),
+        None => true,
+    }
 }
 
-// The tag of a name, 0 where it is not listed.
-pub fn find(list: &[u8], tags: &Table, name: &[u8]) -> usize
-    requires { Listing list.now tags.now }
-    ensures { result ≡ tag_of list.now name.now }
+// Makes an empty table that of a list, with every tag in its chain.
+pub fn chain(list: &[u8], table: &mut Table)
+    requires { table.old ≡ empty }
+    ensures { TableOf list.now table.new (line_count list.now) }
 {
-    tags::find(list, tags, name)
-}
-
-// Puts every tag into its chain.
-pub fn chain(list: &[u8], count: usize, tags: &mut Table)
-    requires count_value { count ≡ line_count list.now }
-    requires table_of { TableOf list.now tags.old 0 }
-    ensures { TableOf list.now tags.new (line_count list.now) }
-{
-    let mut chained = 0;
-    while chained < count {
+    let count = table.index(list);
+    for chained in 0..count {
         let tag = chained + 1;
-        let name = tags::name_of(list, tags, tag);
-        tags::link(tags, tags::bucket(name), tag);
-        chained = tag;
+        let name = table.name_of(list, tag);
+        table.link(tags::bucket(name), tag);
+    }
+}
+
+// A name list that passes its check, with the table of its tags.
+#[derive(Clone, Copy)]
+pub struct Names<'a> {
+    pub list: &'a [u8],
+    pub table: &'a Table,
+    pub ghost listing: { Listing list.now table.now },
+}
+
+impl<'a> Names<'a> {
+    // The name of a tag; no byte where the number is no tag.
+    pub fn name_of(&self, tag: usize) -> &'a [u8]
+        ensures { result.now ≡ name_by self.now.list.now self.now.table.now tag }
+    {
+        self.table.name_of(self.list, tag)
+    }
+
+    // The tag of a name.
+    pub fn find(&self, name: &[u8]) -> Option<usize>
+        ensures { result ≡ tag_or_none (tag_of self.now.list.now name.now) }
+    {
+        self.table.find(self.list, name)
     }
 }

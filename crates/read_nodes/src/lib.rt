@@ -27,10 +27,8 @@ pub fn unpack(words: &Words, n: usize, tree: &mut [u32])
     requires { (length words.now ≡ 4096) × (n ≤ 4096) × (4 * n ≤ length tree.old) }
     ensures { tree.new ≡ all_unpacked (take n words.now) ++ drop (4 * n) tree.old }
 {
-    let mut k = 0;
-    while k < n {
+    for k in 0..n {
         put_node(tree, NODE_WORDS * k, words[k]);
-        k += 1;
     }
 }
 
@@ -58,6 +56,6 @@ pub fn close(s: Scan, at: usize, words: &mut Words) -> Scan
         at,
         top: (word / FIELD) as usize,
         depth: s.depth - 1,
-        nodes: s.nodes,
+        ..s
     }
 }

@@ -11,6 +11,7 @@ use lib.Dec.{eqb, leb}
 use borrow.Author.Tests.{leb-true, le-leb}
 use lib.ListN.{length, get_or, drop, take, set, length-set, length-drop}
 use lib.Seq.{drop-drop, length-take-le}
+use Rattle.std.specs.Prelude.{Ok, Err}
 use Rattle.model.specs.Answers.{said_refusal, refusal, Checked, refuses}
 use Rattle.model.specs.Tree.{Span, Element, Document, ε}
 use Rattle.model.specs.Bytes.{is_name, same_bytes, kind_of_text}
@@ -19,20 +20,20 @@ use Rattle.model.specs.Text.{Place, before, root_open, blank, tag_open, start_ga
 use Rattle.model.specs.Text.{name_at, text_at, behind, text_node, outside, closed, form_of}
 use Rattle.model.specs.Written.{text_byte}
 use Rattle.model.specs.declared.Refusal.{Refusal}
-use Rattle.model.specs.declared.Refusal.TheVariants.{UnknownName, OtherName, Depth, ManyNodes}
+use Rattle.model.specs.declared.Refusal.TheVariants.{ForbiddenByte, Syntax, UnknownName, OtherName, Depth, ManyNodes}
 use Rattle.model.proofs.Scan.{scan-is}
 use Rattle.model.proofs.Tests.{Yes, never, or_left, or_right, or_cases, same, eqb_yes}
 use Rattle.model.proofs.NameLaws.{bytes_same, tag_few}
 use Rattle.model.specs.Text.{state, an_open}
 use Rattle.offsets.specs.Lines.{line_count}
+use Rattle.tags.specs.declared.Table.{Table}
 use Rattle.tags.specs.Tables.{name_by}
 use Rattle.read_names.specs.Listing.{Listing}
 use Rattle.read_nodes.specs.Packed.{packed, unpacked, closed_words, closed_scan, Holds, outermost, inside}
-use Rattle.read_scan.specs.Scans.{at_offset, stop_number, refusal_by, on_step, refused_step}
-use Rattle.read_pass.specs.Reading.{Reads, ReadsAt, AtStartTag, InContent, AtToken, Solid, Refuses, After, Goes, Whole}
+use Rattle.read_scan.specs.Scans.{at_offset, stop_number, stop_by}
+use Rattle.read_pass.specs.Reading.{Reads, ReadsAt, AtStartTag, InContent, AtToken, Solid, Refuses, Step, Goes, Whole}
 use Rattle.read_runs.specs.Runs.{run, class_within, first_class, trim}
 use Rattle.read_scan.specs.declared.Scan.{Scan}
-use Rattle.read_scan.specs.declared.Step.{Step}
 use Rattle.model.proofs.TextLaws.{kind_range}
 use Rattle.read_runs.proofs.RunLaws.{byte_there, no_white_run, run-within, name-run, name-first, name-length, text_run}
 use Rattle.read_names.proofs.TagLaws.{named_well, tag_named, tag_other}
@@ -55,11 +56,11 @@ module _ {list text words : List ℕ} {place : List Open → Place} {s : Scan} (
   pub refused : {n i : ℕ} {x : Refusal} → rest_of ≡ refuses n i → said_refusal x ≡ refusal n i → Refuses (form_of list text) x
   refused {n} {i} e f = record { number = n; place = i; is = r.goes ∙ e; says = f }
 
-  pub stopped : (k at : ℕ) → rest_of ≡ refuses (stop_number k) at → Refuses (form_of list text) (refusal_by (stop_number k) at)
+  pub stopped : (k at : ℕ) → rest_of ≡ refuses (stop_number k) at → Refuses (form_of list text) (stop_by k at)
   unfolding said_refusal
   stopped k at e = by (eqb k 8) (r.goes ∙ e)
     where
-      by : (t : Bool) → form_of list text ≡ refuses (cond t 2 3) at → Refuses (form_of list text) (refusal_by (cond t 2 3) at)
+      by : (t : Bool) → form_of list text ≡ refuses (cond t 2 3) at → Refuses (form_of list text) (cond t (ForbiddenByte at) (Syntax at))
       by true e = record { number = 2; place = at; is = e; says = refl }
       by false e = record { number = 3; place = at; is = e; says = refl }
 
@@ -78,25 +79,6 @@ module _ {list text words : List ℕ} {place : List Open → Place} {s : Scan} (
     short = r.short;
     room = r.room;
   }
-
--- a step on, and one that is refused: with some number, or by a class
-module _ {form : Checked Document} {So : Scan → Type 0} where
-  pub after_on : {s : Scan} → So s → After form So (on_step s)
-  after_on so = record { on = λ e. so; stopped = λ ne. absurd (ne refl) }
-
-  pub after-refused : {number at : ℕ} → number ≢ 0 → Refuses form (refusal_by number at) → After form So (refused_step number at)
-  after-refused some r = record { on = λ e. absurd (some e); stopped = λ ne. r }
-
-stop_some : (class : ℕ) → stop_number class ≢ 0
-stop_some class = by (eqb class 8)
-  where
-    by : (t : Bool) → ◌≢◌ {A = ℕ} (cond t 2 3) 0
-    by true = λ e. absurd (omega arith)
-    by false = λ e. absurd (omega arith)
-
-pub after-stopped : {form : Checked Document} {So : Scan → Type 0} (class : ℕ) {at : ℕ} → Refuses form
-    (refusal_by (stop_number class) at) → After form So (refused_step (stop_number class) at)
-after-stopped class r = after-refused (stop_some class) r
 
 -- in content, an element is open
 outside-some : (os : List Open) → 1 ≤ length os → outside os ≡ blank
@@ -167,7 +149,7 @@ module _ {list text words : List ℕ} {s : Scan} (r : ReadsAt list text words st
       reads-outside deep (reads_on gap (λ os. blank) (at + 1) (omega (arith, byte_there text at (omega arith)))
       (start-ends list text gap.content gap.opened s.nodes at (sym told ∙ e)))
 
-  pub gap_stuck : class ≢ 5 → class ≢ 6 → Refuses (form_of list text) (refusal_by (stop_number class) at)
+  pub gap_stuck : class ≢ 5 → class ≢ 6 → Refuses (form_of list text) (stop_by class at)
   gap_stuck a b = stopped gap class
       at (stuck_start_gap list text gap.content gap.opened s.nodes at class (sym told) (no_white_left r at skipped class told) a b)
 
@@ -176,7 +158,7 @@ module _ {list text words : List ℕ} {s : Scan} (r : ReadsAt list text words st
     slash_next : rest_of gap ≡ onward list text (state start_slash gap.content gap.opened s.nodes) (at + 1)
     slash_next = slash_on list text gap.content gap.opened s.nodes at (sym told ∙ slash_there)
 
-    pub slash_stuck : last ≢ 5 → Refuses (form_of list text) (refusal_by (stop_number last) (at + 1))
+    pub slash_stuck : last ≢ 5 → Refuses (form_of list text) (stop_by last (at + 1))
     slash_stuck h = stopped gap last (at + 1)
         (slash_next ∙ stuck_start_slash list text gap.content gap.opened s.nodes (at + 1) last (sym told_last) h)
 
@@ -189,7 +171,7 @@ module _ {list text words : List ℕ} {s : Scan} (r : ReadsAt list text words st
 
 -- ---- a start tag
 
-module _ {list table text words : List ℕ} {s : Scan} (listing : Listing list table) (a : AtStartTag list text words s) where
+module _ {list text words : List ℕ} {table : Table} {s : Scan} (listing : Listing list table) (a : AtStartTag list text words s) where
   place-leads : (place : Place) → (place ≡ before) ⊎ (place ≡ blank) → (q : Place) × Leads place q
   place-leads place (inl e) = (root_open, rw e at-root)
   place-leads place (inr e) = (tag_open, rw e in_content)
@@ -286,12 +268,12 @@ module _ {list text words : List ℕ} {s : Scan} (r : ReadsAt list text words en
   top_tag_listed = rw top.tag_is top.listed
 
   module _ (first : ℕ) (told_first : first ≡ first_class (drop s.at text)) where
-    pub end_open_stuck : first ≢ 1 → Refuses (form_of list text) (refusal_by (stop_number first) s.at)
+    pub end_open_stuck : first ≢ 1 → Refuses (form_of list text) (stop_by first s.at)
     end_open_stuck h = stopped r first s.at
         (stuck_end_open list text r.content r.opened s.nodes s.at first (sym told_first) h)
 
   -- the name, compared with that of the innermost open element
-  module _ {table : List ℕ} (listing : Listing list table) (name : List ℕ)
+  module _ {table : Table} (listing : Listing list table) (name : List ℕ)
       (open_name : name ≡ name_by list table (get_or words s.top 0 % 65536)) where
     pub top_named : Yes (is_name name)
     top_named = rw open_name (named_well listing _ top_tag_some top_tag_listed)
@@ -325,7 +307,7 @@ module _ {list text words : List ℕ} {s : Scan} (r : ReadsAt list text words en
         behind-name : ReadsAt list text words end_gap (at_offset s at)
         behind-name = past_white named at past end_gap_waits
 
-        pub end_gap_stuck : class ≢ 5 → Refuses (form_of list text) (refusal_by (stop_number class) at)
+        pub end_gap_stuck : class ≢ 5 → Refuses (form_of list text) (stop_by class at)
         end_gap_stuck h =
             stopped behind-name class at (stuck_end_gap list text behind-name.content behind-name.opened s.nodes at class
             (sym told) (no_white_left named at past class told) h)
@@ -347,7 +329,7 @@ module _ {list text words : List ℕ} {s : Scan} (r : ReadsAt list text words bl
 
   module _ (few : s.nodes < 4096) (stop class : ℕ) (stop_is : stop ≡ s.at + run text_byte (drop s.at text))
       (told : class ≡ first_class (drop stop text)) where
-    pub text_stuck : class ≢ 4 → Refuses (form_of list text) (refusal_by (stop_number class) stop)
+    pub text_stuck : class ≢ 4 → Refuses (form_of list text) (stop_by class stop)
     text_stuck h =
         rw stop_is (stopped r class _
         (text_broken list text r.content r.opened s.nodes s.at _ refl solid.no_white solid.no_less solid.no_greater
@@ -431,14 +413,14 @@ module _ {list text words : List ℕ} {s : Scan} (reads : Reads list text words 
         reads_on token_there (λ os. end_open) (at + 2) (omega (arith, byte_there text (at + 1) (omega arith)))
         (end_on list text token_there.content token_there.opened s.nodes at (sym told ∙ less_there) (sym told_next ∙ e))
 
-    pub tag_stuck : next ≢ 1 → next ≢ 6 → Refuses (form_of list text) (refusal_by (stop_number next) (at + 1))
+    pub tag_stuck : next ≢ 1 → next ≢ 6 → Refuses (form_of list text) (stop_by next (at + 1))
     tag_stuck a b =
         stopped token_there next (at + 1)
         (less_on list text token_there.content token_there.opened s.nodes in_content at (sym told ∙ less_there)
         (λ e. a (told_next ∙ e))
         ∙ stuck_tag_open list text token_there.content token_there.opened s.nodes (at + 1) next (sym told_next) a b)
 
-  pub content_stuck : (eqb class 5 || leb 8 class) ≡ true → Refuses (form_of list text) (refusal_by (stop_number class) at)
+  pub content_stuck : (eqb class 5 || leb 8 class) ≡ true → Refuses (form_of list text) (stop_by class at)
   content_stuck e = stopped token_there class
       at (stuck_blank list text token_there.content token_there.opened s.nodes at class (sym told)
       (by (or_cases (eqb class 5) (leb 8 class) e)))
@@ -490,7 +472,8 @@ token_within (inr (deep, r)) = (r.within, r.short)
 
 -- a token that begins later begins as late
 pub goes-from : (list text words : List ℕ) {i j : ℕ} (step : Step) → i ≤ j → Goes list text words j step → Goes list text words i step
-goes-from list text words step h g = record { on = λ e. (omega (arith, (g.on e).0), (g.on e).1); stopped = g.stopped }
+goes-from list text words (Ok s) h (later, r) = (omega arith, r)
+goes-from list text words (Err x) h r = r
 
 -- ---- before the root
 
@@ -516,13 +499,13 @@ module _ (list text words : List ℕ) (short : length text ≤ 65535) (room : le
     root-there : ReadsAt list text words before (scan-at at)
     root-there = past_white first-there at skipped before_waits
 
-    pub root_stuck : class ≢ 4 → Refuses (form_of list text) (refusal_by (stop_number class) at)
+    pub root_stuck : class ≢ 4 → Refuses (form_of list text) (stop_by class at)
     root_stuck h =
         stopped root-there class at (stuck_before list text root-there.content root-there.opened 0 at class (sym told)
         (no_white_left first-there at skipped class told) h)
 
     module _ (less_there : class ≡ 4) (next : ℕ) (told_next : next ≡ first_class (drop (at + 1) text)) where
-      pub root_open_stuck : next ≢ 1 → Refuses (form_of list text) (refusal_by (stop_number next) (at + 1))
+      pub root_open_stuck : next ≢ 1 → Refuses (form_of list text) (stop_by next (at + 1))
       root_open_stuck h =
           stopped root-there next (at + 1)
           (less_on list text root-there.content root-there.opened 0 at-root at (sym told ∙ less_there) (λ e. h (told_next ∙ e))
@@ -556,7 +539,7 @@ module _ {list text words : List ℕ} {s : Scan} (r : Reads list text words outs
   after-there = past_white closed-there at skipped after_waits
 
   pub after_stuck : (class : ℕ) → class ≡ first_class (drop at text) → at < length text → Refuses (form_of list text)
-      (refusal_by (stop_number class) at)
+      (stop_by class at)
   after_stuck class told there =
       stopped after-there class at
       (stuck_after list text after-there.content after-there.opened s.nodes at class (sym told) there

@@ -1,19 +1,15 @@
 -- How far a text is read, against the one pass of the model.
-use Rattle.std.specs.Prelude.{◌≡◌, ◌≢◌, ◌⊎◌, List, ℕ, ◌+◌, ◌≤◌, ◌<◌, length, take, drop}
-use Rattle.model.specs.Answers.{said_refusal, refusal, Checked, passes, refuses}
+use Rattle.std.specs.Prelude.{◌≡◌, ◌≢◌, ◌⊎◌, List, ℕ, ◌+◌, ◌≤◌, ◌<◌, length, take, drop, Result, Ok, Err}
+use Rattle.model.specs.Answers.{Answer, said_refusal, refusal, Checked, passes, refuses}
 use Rattle.model.specs.Tree.{Document, sizeD, wordsD}
 use Rattle.model.specs.Text.{Place, before, blank, Open, outside, form_of}
 use Rattle.model.specs.declared.Refusal.{Refusal}
-use Rattle.model.specs.declared.Answer.{Answer}
-use Rattle.model.specs.declared.Answer.TheVariants.{Count, Error}
 use Rattle.model.specs.Text.{scan}
 use Rattle.model.specs.Text.{state}
 use Rattle.offsets.specs.Lines.{line_count}
 use Rattle.read_nodes.specs.Packed.{all_unpacked, Holds}
 use Rattle.read_runs.specs.Runs.{first_class}
-use Rattle.read_scan.specs.Scans.{refusal_by}
 use Rattle.read_scan.specs.declared.Scan.{Scan}
-use Rattle.read_scan.specs.declared.Step.{Step}
 
 -- No byte before `s.at` is refused; the text goes on from there at a place, which may depend on the open elements.
 -- The words hold the nodes that are read.
@@ -61,10 +57,13 @@ pub record Refuses (form : Checked Document) (r : Refusal) : Type 0 where
   pub is : form ≡ refuses number place
   pub says : said_refusal r ≡ refusal number place
 
--- after a step the text is read so, or it is refused
-pub record After (form : Checked Document) (So : Scan → Type 0) (step : Step) : Type 0 where
-  pub on : step.refused ≡ 0 → So step.scan
-  pub stopped : step.refused ≢ 0 → Refuses form (refusal_by step.refused step.scan.at)
+-- after a token the text is read so, or it is refused
+abbrev pub Step : Type 0
+Step = Result Scan Refusal
+
+abbrev pub After : (form : Checked Document) → (Scan → Type 0) → Step → Type 0
+After form So (Ok s) = So s
+After form So (Err r) = Refuses form r
 
 -- after the white before the root, by whatever list and words
 abbrev pub Begins : (text : List ℕ) → Step → Type 0
@@ -88,8 +87,8 @@ pub record Whole (list text words : List ℕ) (n : ℕ) : Type 0 where
   pub room : length words ≡ 4096
 
 abbrev pub Scanned : (list text words : List ℕ) → Answer → Type 0
-Scanned list text words (Count n) = Whole list text words n
-Scanned list text words (Error r) = Refuses (form_of list text) r
+Scanned list text words (Ok n) = Whole list text words n
+Scanned list text words (Err r) = Refuses (form_of list text) r
 
 -- where a text is read up to a scan, by whatever list and words, it is answered so
 abbrev pub Ends : (text : List ℕ) → Scan → Answer → Type 0

@@ -9,17 +9,23 @@ use native.Mathlib.Omega.{arith}
 use native.Mathlib.Decide.{dec_lt}
 use lib.Dec.{eqb, leb}
 use lib.ListN.{length, get_or, take, drop, drop_of_length-le, length-drop}
-use lib.Seq.{drop-cons, take-suc, get_or-drop, drop-drop, length-take-le}
+use lib.Seq.{take_all, drop-cons, take-suc, get_or-drop, drop-drop, length-take-le}
+use denote.Enum.Bare.{sameb}
 use borrow.Author.Tests.{ne_eqb, lt-leb}
 use Rattle.model.specs.Lists.{every}
 use Rattle.model.specs.Bytes.{Class, white, letter, digit, hyphen, less, greater, slash, other, forbidden, class_number, is, class_of}
 use Rattle.model.specs.Bytes.{letter_byte, name_byte, is_name, same_bytes, within}
 use Rattle.model.specs.Text.{name_at, trimmed, text_at}
 use Rattle.model.specs.Written.{text_byte}
-use Rattle.model.proofs.Tests.{Yes, never, and_yes, or_left, same}
+use Rattle.model.proofs.Tests.{Yes, never, and_yes, yes_not, or_left, same, eqb_no}
 use Rattle.model.proofs.ByteLaws.{name-cons}
 use Rattle.model.proofs.NameLaws.{bytes_same}
 use Rattle.model.proofs.ListLaws.{every-cons}
+use Rattle.chars.specs.Classes.{meaning, name_class}
+use Rattle.chars.proofs.ClassLaws.{number_is, same_number, not_no}
+use Rattle.chars.specs.declared.Class as declared
+use Rattle.chars.specs.declared.Class.TheVariants.{White}
+use Rattle.chars.specs.contracts.Class.{the_type}
 use Rattle.read_runs.specs.Runs.{run, class_within, first_class, trim}
 
 -- ---- the bytes from an offset on
@@ -110,10 +116,12 @@ unfolding every
 every_append test [] x = and-true (test x)
 every_append test (y ∷ xs) x = rw (every_append test xs x, and_assoc)
 
-pub every-last : (test : ℕ → Bool) (s : List ℕ) (at i : ℕ) → at + i < length s → every test (take (i + 1) (drop at s)) ≡
-    (every test (take i (drop at s)) && test (get_or s (at + i) 0))
-every-last test s at i h = rw (add-one, take-suc (drop at s) i 0 (rw length-drop (omega arith)), get_or-drop)
-    (every_append test (take i (drop at s)) (get_or s (at + i) 0))
+pub every-last : (test : ℕ → Bool) (s : List ℕ) (i : ℕ) → i < length s → every test (take (i + 1) s) ≡
+    (every test (take i s) && test (get_or s i 0))
+every-last test s i h = rw (add-one, take-suc s i 0 h) (every_append test (take i s) (get_or s i 0))
+
+pub every-whole : (test : ℕ → Bool) (s : List ℕ) (i : ℕ) → length s ≤ i → every test (take i s) ≡ every test s
+every-whole test s i h = rw (take_all i s h)
 
 -- what the byte behind a run is not
 pub run_left : (test : ℕ → Bool) (P : ℕ → Type 0) → ((b : ℕ) → test b ≡ false → P (class_number (class_of b))) → P 9
@@ -126,17 +134,7 @@ run_left test P f e (b ∷ s) = by (test b) refl (run_left test P f e s)
     by true h ih = ih
     by false h ih = f b h
 
--- ---- tests by a class's number
-
-pub within_by : (low high b k : ℕ) → k ≡ class_number (class_of b) → class_within low high b ≡ (leb low k && leb k high)
-unfolding class_within
-within_by low high b k e = rw e
-
-pub text_by : (b k : ℕ) → k ≡ class_number (class_of b) → text_byte b ≡ ((not (eqb k 4) && not (eqb k 5)) && not (eqb k 8))
-unfolding text_byte is class_number
-text_by b k e = rw (e, and_assoc)
-
--- ---- names
+-- ---- tests of a byte by its class
 
 -- a name's bytes are those of classes 1 to 3
 name_classes : (c : Class) → (is c letter || (is c digit || is c hyphen)) ≡ within 1 3 (class_number c)
@@ -150,6 +148,35 @@ name_classes greater = refl
 name_classes slash = refl
 name_classes other = refl
 name_classes forbidden = refl
+
+white_number : (k : Class) → eqb (class_number k) 0 ≡ within 0 0 (class_number k)
+unfolding class_number
+white_number white = refl
+white_number letter = refl
+white_number digit = refl
+white_number hyphen = refl
+white_number less = refl
+white_number greater = refl
+white_number slash = refl
+white_number other = refl
+white_number forbidden = refl
+
+pub white_by : (c : declared.Class) (b : ℕ) → meaning c ≡ class_of b → sameb the_type c White ≡ class_within 0 0 b
+unfolding class_within
+white_by c b e = same_number c White ∙ rw (number_is c, e) (white_number (class_of b))
+
+-- a byte that is white, and one that isn't
+pub blank_by : (c : declared.Class) (b : ℕ) → meaning c ≡ class_of b → not (sameb the_type c White) ≡ false → class_number (class_of b) ≡ 0
+blank_by c b m e = ap class_number (sym m) ∙ sym (number_is c) ∙ same _ _ (sym (same_number c White) ∙ not_no _ e)
+
+pub solid_by : (c : declared.Class) (b : ℕ) → meaning c ≡ class_of b → not (sameb the_type c White) ≡ true → class_number (class_of b) ≢ 0
+solid_by c b m e = λ z. eqb_no (sym (same_number c White) ∙ yes_not _ e) (number_is c ∙ ap class_number m ∙ z)
+
+pub name_by : (c : declared.Class) (b : ℕ) → meaning c ≡ class_of b → name_class (meaning c) ≡ class_within 1 3 b
+unfolding class_within name_class
+name_by c b e = rw e (name_classes (class_of b))
+
+-- ---- names
 
 pub name-run : (s : List ℕ) → name_at s ≡ take (run (class_within 1 3) s) s
 unfolding run name_at name_byte class_within

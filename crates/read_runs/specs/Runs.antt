@@ -1,7 +1,9 @@
 -- What stands at the front of some bytes: how many pass a test, and the class of the first; and bytes trimmed at their end.
-use Rattle.std.specs.Prelude.{Bool, cond, List, [], ◌∷◌, ℕ, suc}
+use Rattle.std.specs.Prelude.{◌≡◌, Bool, cond, List, [], ◌∷◌, ℕ, suc}
 use Rattle.model.specs.Bytes.{class_number, class_of, within}
 use Rattle.model.specs.Text.{trimmed}
+use Rattle.chars.specs.Classes.{meaning}
+use Rattle.chars.specs.declared.Class.{Class}
 
 -- how many bytes, from the first on, pass a test
 unfoldable pub run : (ℕ → Bool) → List ℕ → ℕ
@@ -16,6 +18,10 @@ class_within low high b = within low high (class_number (class_of b))
 unfoldable pub first_class : List ℕ → ℕ
 first_class [] = 9
 first_class (b ∷ s) = class_number (class_of b)
+
+-- what a closure gives for the class of a byte is a test of the byte
+abbrev pub Tests : (Class → Bool → Type 0) → (ℕ → Bool) → Type 0
+Tests gives test = (c : Class) (b : ℕ) (r : Bool) → meaning c ≡ class_of b → gives c r → r ≡ test b
 
 -- bytes without the white at their end
 unfoldable pub trim : List ℕ → List ℕ

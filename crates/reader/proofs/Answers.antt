@@ -14,8 +14,8 @@ use Rattle.model.specs.Calls.{names_said, read_said, read_tree}
 use Rattle.model.specs.Calls as calls
 use Rattle.model.specs.declared.Refusal.{Refusal}
 use Rattle.model.specs.declared.Refusal.TheVariants.{LongText, ShortBuffer}
-use Rattle.model.specs.declared.Answer.{Answer}
-use Rattle.model.specs.declared.Answer.TheVariants.{Count, Error}
+use Rattle.model.specs.Answers.{Answer}
+use Rattle.std.specs.Prelude.{Ok, Err}
 use Rattle.model.proofs.Answered.{refusal_says}
 use Rattle.model.proofs.CheckLaws.{bind_passes}
 use Rattle.model.proofs.TreeLaws.{length-wordsD}
@@ -28,12 +28,12 @@ use Rattle.read_pass.specs.Reading.{Refuses, Whole}
 -- ---- the check of the name list
 
 -- an answer counts what passes, and refuses what is refused
-counts-passed : (c : Checked ℕ) (g : ℕ) → said (Count g) ≡ answer_of (λ n. n) c → c ≡ passes g
+counts-passed : (c : Checked ℕ) (g : ℕ) → said (Ok g) ≡ answer_of (λ n. n) c → c ≡ passes g
 unfolding said answer_of
 counts-passed (passes n) g e = cc
 counts-passed (refuses n i) g e = let z : ◌≡◌ {A = ℕ} 0 1 = cc in absurd (omega arith)
 
-refuses_refused : (c : Checked ℕ) (x : Refusal) → said (Error x) ≡ answer_of (λ n. n) c → (n : ℕ) × (i : ℕ) × (c ≡ refuses n i) ×
+refuses_refused : (c : Checked ℕ) (x : Refusal) → said (Err x) ≡ answer_of (λ n. n) c → (n : ℕ) × (i : ℕ) × (c ≡ refuses n i) ×
     (said_refusal x ≡ refusal n i)
 unfolding said answer_of
 refuses_refused (passes m) x e = let (n, i, f) = refusal_says x in let z : ◌≡◌ {A = ℕ} 0 1 = cc in absurd (omega arith)
@@ -46,19 +46,19 @@ module _ (list text tree : List ℕ) where
 
   -- where a check refuses, nothing is written
   told_refused : {n i : ℕ} (x : Refusal) → calls.read list text (length tree) ≡ refuses n i → said_refusal x ≡ refusal n i → Told
-      (Error x) tree
+      (Err x) tree
   unfolding said read_said read_tree answer_of buffer_after ◌>>=◌
   told_refused x e f = (rw e f, rw e)
 
-  pub checked-names : (g : ℕ) → said (Count g) ≡ names_said list → names_of list ≡ passes (line_count list)
+  pub checked-names : (g : ℕ) → said (Ok g) ≡ names_said list → names_of list ≡ passes (line_count list)
   unfolding names_said
   checked-names g e = let passed = counts-passed (names_of list) g e in rw (all-indexed list g passed) passed
 
-  names-refused : {n i : ℕ} (x : Refusal) → names_of list ≡ refuses n i → said_refusal x ≡ refusal n i → Told (Error x) tree
+  names-refused : {n i : ℕ} (x : Refusal) → names_of list ≡ refuses n i → said_refusal x ≡ refusal n i → Told (Err x) tree
   unfolding calls.read ◌>>=◌
   names-refused x e f = told_refused x (rw e) f
 
-  pub refused-names : (x : Refusal) → said (Error x) ≡ names_said list → Told (Error x) tree
+  pub refused-names : (x : Refusal) → said (Err x) ≡ names_said list → Told (Err x) tree
   unfolding names_said
   refused-names x e = let (n, i, f, says) = refuses_refused (names_of list) x e in names-refused x f says
 
@@ -69,11 +69,11 @@ module _ (list text tree : List ℕ) where
     unfolding calls.read
     read-form = bind_passes (λ n. form_of list text >>= λ d. room_for (4 * sizeD d) (length tree) >> passes d) checked
 
-    pub refused-form : {x : Refusal} → Refuses (form_of list text) x → Told (Error x) tree
+    pub refused-form : {x : Refusal} → Refuses (form_of list text) x → Told (Err x) tree
     unfolding ◌>>=◌
     refused-form {x} r = told_refused x (read-form ∙ rw r.is) r.says
 
-    pub long_text : 65535 < length text → Told (Error LongText) tree
+    pub long_text : 65535 < length text → Told (Err LongText) tree
     unfolding said_refusal
     long_text h = refused-form (record
         { number = 1; place = 65535; is = scan-is list text ∙ rw (lt-leb (length text) 65535 h); says = refl })
@@ -83,11 +83,11 @@ module _ (list text tree : List ℕ) where
       unfolding ◌>>=◌
       read_whole = read-form ∙ rw (w.is, w.count)
 
-      pub short-buffer : length tree < 4 * n → Told (Error (ShortBuffer (4 * n))) tree
+      pub short-buffer : length tree < 4 * n → Told (Err (ShortBuffer (4 * n))) tree
       unfolding said_refusal room_for require ◌>>◌
       short-buffer h = told_refused (ShortBuffer (4 * n)) (read_whole ∙ rw (lt-leb (4 * n) (length tree) h)) refl
 
-      pub filled : {after : List ℕ} → 4 * n ≤ length tree → after ≡ all_unpacked (take n words) ++ drop (4 * n) tree → Told (Count n) after
+      pub filled : {after : List ℕ} → 4 * n ≤ length tree → after ≡ all_unpacked (take n words) ++ drop (4 * n) tree → Told (Ok n) after
       unfolding said read_said read_tree answer_of buffer_after room_for require ◌>>=◌ ◌>>◌
       filled h e =
           let whole : calls.read list text (length tree) ≡ passes w.form = read_whole ∙ rw (le-leb (4 * n) (length tree) h) in

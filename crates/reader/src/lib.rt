@@ -12,42 +12,34 @@ ghost use Rattle.model.specs.Names.{names_of};
 ghost use Rattle.offsets.specs.Lines.{line_count};
 
 use layout::{MOST_BYTES, MOST_NODES, NODE_WORDS};
-use model::{Answer, Refusal};
+use model::Refusal;
 use read_form::scan_form;
 use read_nodes::unpack;
 
 // The number of nodes, whose words go to the front of the tree; or the first of the refusals 8, 1, 2 to 7 and 22, which leaves the
 // tree as it was.
-pub fn read(list: &[u8], text: &[u8], tree: &mut [u32]) -> Answer
+pub fn read(list: &[u8], text: &[u8], tree: &mut [u32]) -> Result<usize, Refusal>
     ensures answer { said result ≡ read_said list.now text.now tree.old }
     ensures buffer { tree.new ≡ read_tree list.now text.now tree.old }
 {
-    let checked = names::check(list);
-    match checked {
-        Answer::Error(refusal) => Answer::Error(refusal),
-        Answer::Count(_) => read_by(list, text, tree),
-    }
+    names::check(list)?;
+    read_by(list, text, tree)
 }
 
 // The same, by a list that passes its check.
-fn read_by(list: &[u8], text: &[u8], tree: &mut [u32]) -> Answer
+fn read_by(list: &[u8], text: &[u8], tree: &mut [u32]) -> Result<usize, Refusal>
     requires { names_of list.now ≡ passes (line_count list.now) }
     ensures answer { said result ≡ read_said list.now text.now tree.old }
     ensures buffer { tree.new ≡ read_tree list.now text.now tree.old }
 {
     if MOST_BYTES < text.len() {
-        return Answer::Error(Refusal::LongText);
+        return Err(Refusal::LongText);
     }
     let mut words = [0u64; MOST_NODES];
-    let scanned = scan_form(list, text, &mut words);
-    match scanned {
-        Answer::Error(refusal) => Answer::Error(refusal),
-        Answer::Count(nodes) => {
-            if tree.len() < NODE_WORDS * nodes {
-                return Answer::Error(Refusal::ShortBuffer(NODE_WORDS * nodes));
-            }
-            unpack(&words, nodes, tree);
-            Answer::Count(nodes)
-        }
+    let nodes = scan_form(list, text, &mut words)?;
+    if tree.len() < NODE_WORDS * nodes {
+        return Err(Refusal::ShortBuffer(NODE_WORDS * nodes));
     }
+    unpack(&words, nodes, tree);
+    Ok(nodes)
 }

@@ -11,10 +11,13 @@ use lib.ListN.{length, get_or}
 use Rattle.model.specs.Answers.{passes}
 use Rattle.model.specs.Bytes.{same_bytes}
 use Rattle.model.specs.Names.{name_of, tag_of, names_of}
+use Rattle.std.proofs.lemmas.Option.{none-some, same_Some}
 use Rattle.model.proofs.Tests.{never}
 use Rattle.model.proofs.NameLaws.{same-bytes_refl, bytes_same, tag_of_name, tag_some, tag_few, name_of_tag}
 use Rattle.offsets.specs.Lines.{line_count}
-use Rattle.tags.specs.Tables.{first_of, next_of, name_by, bucket, along, found_by, Last, TableOf}
+use Rattle.std.specs.Prelude.{Some, None}
+use Rattle.tags.specs.declared.Table.{Table}
+use Rattle.tags.specs.Tables.{first_of, next_of, name_by, bucket, along, found_by, tag_or_none, Last, TableOf}
 use Rattle.tags.proofs.TagLaws.{name_is}
 
 -- ---- buckets
@@ -33,9 +36,26 @@ pub bucket-some : (name : List ℕ) {i : ℕ} → i ≡ length name - 2 →
 unfolding bucket
 bucket-some name e = rw e
 
+-- ---- a tag as it is told
+
+pub tag_told : (t n : ℕ) → t ≢ 0 → t ≡ n → Some t ≡ tag_or_none n
+tag_told zero n some e = absurd (some refl)
+tag_told (suc t) n some e = rw (← e) refl
+
+pub none_told : (n : ℕ) → 0 ≡ n → None ≡ tag_or_none n
+none_told n e = rw (← e) refl
+
+pub told_tag : (n t : ℕ) → Some t ≡ tag_or_none n → (t ≡ n) × (t ≢ 0)
+told_tag zero t e = absurd (none-some t (sym e))
+told_tag (suc n) t e = let s = same_Some t (suc n) e in (s, λ z. omega (arith, s))
+
+pub told_none : (n : ℕ) → None ≡ tag_or_none n → n ≡ 0
+told_none zero e = refl
+told_none (suc n) e = absurd (none-some (suc n) e)
+
 -- ---- along a chain
 
-module _ (list table name : List ℕ) where
+module _ (list : List ℕ) (table : Table) (name : List ℕ) where
   pub along_past : (n t : ℕ) → n < t → 0 ≡ along list table name n t
   unfolding along
   along_past zero t h = refl
@@ -86,7 +106,7 @@ record Ahead (list name : List ℕ) (a t : ℕ) : Type 0 where
   there : 0 < t → bucket (name_of list t) ≡ bucket name
   ahead : (b : ℕ) → 1 ≤ b → b ≤ a → name_of list b ≡ name → b ≤ t
 
-module _ {list table : List ℕ} {a : ℕ} (made : TableOf list table a) (listed : a ≤ line_count list) (name : List ℕ) where
+module _ {list : List ℕ} {table : Table} {a : ℕ} (made : TableOf list table a) (listed : a ≤ line_count list) (name : List ℕ) where
   ahead_next : (t : ℕ) → Ahead list name a t → t ≢ 0 → same_bytes (name_of list t) name ≡ false → Ahead list name a (next_of table t)
   ahead_next t h some e =
       let l = made.next t (omega arith) h.few in

@@ -4,7 +4,7 @@ use Rattle.offsets.proofs.Parts.{part_some, part_none}
 use Rattle.offsets.proofs.bare.Goals as goal
 
 pub returns-then-stop-at : goal.returns-then-stop-at
-returns-then-stop-at c = sym (part_none _ _ _ _ c.least-stop.ensures c.if-stop-at.true)
+returns-then-stop-at c = sym (part_none _ _ _ _ c.min-stop.ensures c.if-stop-at.true)
 
 pub returns : goal.returns
-returns c = sym (part_some _ _ _ _ c.least-stop.ensures)
+returns c = sym (part_some _ _ _ _ c.min-stop.ensures)

@@ -1,6 +1,5 @@
 -- `offsets::index` meets its contract: what is left to write, from line k on, completes the index.
 use mathlib.Core.Path.{◌≡◌}
-use Prim.Native.Nat.{◌-◌, ◌≤◌}
 use lib.ListN.{length}
 use lib.Seq.{sets}
 use Rattle.offsets.specs.Lines.{line_starts}
@@ -10,8 +9,5 @@ use Rattle.offsets.proofs.index.Given as goal
 
 abbrev pub invariant-loop-k : goal.invariant-loop-k
 invariant-loop-k l =
-    (l.k ≤ 64) × Begins l.list l.k l.at × (sets l.starts l.k (starts_from l.list l.k) ≡ sets l.initial.starts 0 (line_starts l.list)) ×
+    Begins l.list l.k l.at × (sets l.starts l.k (starts_from l.list l.k) ≡ sets l.initial.starts 0 (line_starts l.list)) ×
     (length l.starts ≡ length l.initial.starts)
-
-abbrev pub decreases-loop-k : goal.decreases-loop-k
-decreases-loop-k l = 64 - l.k

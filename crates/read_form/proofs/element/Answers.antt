@@ -1,27 +1,30 @@
 -- `read_form::element` meets its contract: between two tokens the text is read so far.
 use mathlib.Core.Logic.{inl, inr}
 use native.Mathlib.Omega.{arith}
+use Rattle.std.proofs.lemmas.Result.{err_from_is_err_and}
 use Rattle.read_form.proofs.element.Goals as goal
 
-pub loop-step-init : goal.loop-step-init
-loop-step-init c = inl c.requires.at_start_tag
+pub loop-s-init : goal.loop-s-init
+loop-s-init c = inl c.requires
 
-pub token-step-requires-clause-at_token : goal.token-step-requires-clause-at_token
-token-step-requires-clause-at_token c = c.loop-step.invariant
+pub token-requires : goal.token-requires
+token-requires c = c.loop-s.invariant
 
-pub returns-then-step-ne-NONE : goal.returns-then-step-ne-NONE
-returns-then-step-ne-NONE c = rw c.refusal_of.ensures (c.token-step.ensures.stopped c.if-step-ne-NONE.true)
+pub returns-in_err-s : goal.returns-in_err-s
+returns-in_err-s c =
+    let p = err_from_is_err_and c.from_residual.result c.from_residual.ensures.1 in
+    rw (p.1, p.2) c.in_err-s.ensures
 
-pub ending-requires-clause-depth_value : goal.ending-requires-clause-depth_value
-ending-requires-clause-depth_value c = (c.if-s-eq0.true, (c.token-step.ensures.on c.if-step-ne-NONE.false).1.within)
+pub ending-requires : goal.ending-requires
+ending-requires c = (c.if-s-eq0.true, c.in_ok-s.ensures.1.within)
 
 pub returns-then-s-eq0 : goal.returns-then-s-eq0
-returns-then-s-eq0 c = c.ending.ensures _ _ (c.token-step.ensures.on c.if-step-ne-NONE.false).1
+returns-then-s-eq0 c = c.ending.ensures _ _ c.in_ok-s.ensures.1
 
-pub loop-step-smaller : goal.loop-step-smaller
-loop-step-smaller c =
-    let g = c.token-step.ensures.on c.if-step-ne-NONE.false in
+pub loop-s-smaller : goal.loop-s-smaller
+loop-s-smaller c =
+    let g = c.in_ok-s.ensures in
     omega (arith, g.0, g.1.within)
 
-pub loop-step-preserved : goal.loop-step-preserved
-loop-step-preserved c = inr (omega arith, (c.token-step.ensures.on c.if-step-ne-NONE.false).1)
+pub loop-s-preserved : goal.loop-s-preserved
+loop-s-preserved c = inr (omega arith, c.in_ok-s.ensures.1)

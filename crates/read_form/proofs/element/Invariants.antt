@@ -4,8 +4,8 @@ use lib.ListN.{length}
 use Rattle.read_pass.specs.Reading.{AtToken}
 use Rattle.read_form.proofs.element.Given as goal
 
-abbrev pub invariant-loop-step : goal.invariant-loop-step
-invariant-loop-step l = AtToken l.list l.text l.words l.s
+abbrev pub invariant-loop-s : goal.invariant-loop-s
+invariant-loop-s l = AtToken l.names.list.now l.text l.words l.s
 
-abbrev pub decreases-loop-step : goal.decreases-loop-step
-decreases-loop-step l = length l.text - l.s.at
+abbrev pub decreases-loop-s : goal.decreases-loop-s
+decreases-loop-s l = length l.text - l.s.at

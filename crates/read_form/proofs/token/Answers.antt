@@ -1,75 +1,77 @@
 -- `read_form::token` meets its contract.
+use mathlib.Core.Path.{sym, ◌∙◌}
 use native.Mathlib.Omega.{arith}
+use Rattle.chars.proofs.ClassLaws.{seen_is, seen_isnt, no_text, yes_text, end_no_text}
 use Rattle.read_pass.proofs.Readings.{end_tag_there, tag_stuck, content_stuck, text_there, token_within, no_root, no_root_tag, at-start_tag}
-use Rattle.read_pass.proofs.Readings.{goes-from, after-stopped}
+use Rattle.read_pass.proofs.Readings.{goes-from}
 use Rattle.read_form.proofs.token.Goals as goal
 
-pub past_white-seen-requires-clause-at_in_bounds : goal.past_white-seen-requires-clause-at_in_bounds
-past_white-seen-requires-clause-at_in_bounds c = (token_within c.requires.at_token).0
+pub past_white-at-requires : goal.past_white-at-requires
+past_white-at-requires c = (token_within c.requires).0
 
-pub overflow_add-at : goal.overflow_add-at
-overflow_add-at c = omega (arith, c.past_white-seen.ensures.within)
+pub start_tag-requires : goal.start_tag-requires
+start_tag-requires c =
+    rw c.moved.ensures (at-start_tag _ _ c.past_white-at.ensures.is c.past_white-at.ensures.class _ c.class_at-next.ensures
+    (seen_is _ _ (sym c.eq.ensures ∙ c.if-eq.true)) (seen_is _ _ (sym c.eq-then-eq.ensures ∙ c.if-eq-2.true)) c.requires)
 
-pub start_tag-requires-clause-at_start_tag : goal.start_tag-requires-clause-at_start_tag
-start_tag-requires-clause-at_start_tag c =
-    rw c.moved.ensures (at-start_tag _ _ c.past_white-seen.ensures.is c.past_white-seen.ensures.class _ c.class_at-next.ensures
-    c.if-class-eq-LESS.true c.if-next-eq-LETTER.true c.requires.at_token)
+pub returns-then-eq-2 : goal.returns-then-eq-2
+returns-then-eq-2 c =
+    goes-from _ _ _ c.start_tag.result (rw c.moved.ensures (omega (arith, c.past_white-at.ensures.within))) c.start_tag.ensures
 
-pub returns-then-next-eq-LETTER : goal.returns-then-next-eq-LETTER
-returns-then-next-eq-LETTER c =
-    goes-from _ _ _ c.start_tag.result (rw c.moved.ensures (omega (arith, c.past_white-seen.ensures.within))) c.start_tag.ensures
-
-pub overflow_add-at-then-next-eq-SLASH : goal.overflow_add-at-then-next-eq-SLASH
-overflow_add-at-then-next-eq-SLASH c = omega (arith, c.past_white-seen.ensures.within)
-
-pub end_tag-requires-clause-le_depth : goal.end_tag-requires-clause-le_depth
-end_tag-requires-clause-le_depth c =
-    let (deep, r) = no_root_tag _ _ c.past_white-seen.ensures.is c.past_white-seen.ensures.class _ c.class_at-next.ensures
-    c.if-next-eq-LETTER.false c.requires.at_token in
-    rw c.moved-then-next-eq-SLASH.ensures (
+pub end_tag-requires : goal.end_tag-requires
+end_tag-requires c =
+    let no_letter = seen_isnt _ _ (sym c.eq-then-eq.ensures ∙ c.if-eq-2.false) in
+    let (deep, r) = no_root_tag _ _ c.past_white-at.ensures.is c.past_white-at.ensures.class _ c.class_at-next.ensures
+    no_letter c.requires in
+    rw c.moved-then-eq-3.ensures (
       deep,
-      end_tag_there r deep _ _ c.past_white-seen.ensures.is c.past_white-seen.ensures.class
-          c.if-class-eq-LESS.true _ c.class_at-next.ensures c.if-next-eq-SLASH.true,
+      end_tag_there r deep _ _ c.past_white-at.ensures.is c.past_white-at.ensures.class (seen_is _ _ (sym c.eq.ensures ∙ c.if-eq.true)) _
+          c.class_at-next.ensures (seen_is _ _ (sym c.eq-then-eq-2.ensures ∙ c.if-eq-3.true)),
     )
 
-pub returns-then-next-eq-SLASH : goal.returns-then-next-eq-SLASH
-returns-then-next-eq-SLASH c =
-    goes-from _ _ _ c.end_tag.result (rw c.moved-then-next-eq-SLASH.ensures (omega (arith, c.past_white-seen.ensures.within)))
+pub returns-then-eq-3 : goal.returns-then-eq-3
+returns-then-eq-3 c =
+    goes-from _ _ _ c.end_tag.result (rw c.moved-then-eq-3.ensures (omega (arith, c.past_white-at.ensures.within)))
     c.end_tag.ensures
 
-pub overflow_add-at-then-class-eq-LESS : goal.overflow_add-at-then-class-eq-LESS
-overflow_add-at-then-class-eq-LESS c = omega (arith, c.past_white-seen.ensures.within)
+pub returns-then-eq : goal.returns-then-eq
+returns-then-eq c =
+    let no_letter = seen_isnt _ _ (sym c.eq-then-eq.ensures ∙ c.if-eq-2.false) in
+    let (deep, r) = no_root_tag _ _ c.past_white-at.ensures.is c.past_white-at.ensures.class _ c.class_at-next.ensures
+    no_letter c.requires in
+    rw c.stopped.ensures (tag_stuck r deep _ _ c.past_white-at.ensures.is
+    c.past_white-at.ensures.class (seen_is _ _ (sym c.eq.ensures ∙ c.if-eq.true)) _ c.class_at-next.ensures no_letter
+    (seen_isnt _ _ (sym c.eq-then-eq-2.ensures ∙ c.if-eq-3.false)))
 
-pub returns-then-class-eq-LESS : goal.returns-then-class-eq-LESS
-returns-then-class-eq-LESS c =
-    let (deep, r) = no_root_tag _ _ c.past_white-seen.ensures.is c.past_white-seen.ensures.class _ c.class_at-next.ensures
-    c.if-next-eq-LETTER.false c.requires.at_token in
-    rw c.stopped.ensures (after-stopped c.class_at-next.result (tag_stuck r deep _ _ c.past_white-seen.ensures.is
-    c.past_white-seen.ensures.class c.if-class-eq-LESS.true _ c.class_at-next.ensures c.if-next-eq-LETTER.false
-    c.if-next-eq-SLASH.false))
+pub returns-in_default : goal.returns-in_default
+returns-in_default c =
+    let (deep, r) = no_root _ _ c.past_white-at.ensures.is c.past_white-at.ensures.class (seen_isnt _ _ (sym c.eq.ensures ∙ c.if-eq.false))
+    c.requires in
+    rw c.stopped-in_default.ensures
+    (content_stuck r deep _ _ c.past_white-at.ensures.is c.past_white-at.ensures.class (end_no_text c.in_default.is))
 
-pub returns-then-class : goal.returns-then-class
-returns-then-class c =
-    let (deep, r) = no_root _ _ c.past_white-seen.ensures.is c.past_white-seen.ensures.class c.if-class-eq-LESS.false c.requires.at_token in
-    rw c.stopped-then-class.ensures (after-stopped c.past_white-seen.result.class
-    (content_stuck r deep _ _ c.past_white-seen.ensures.is c.past_white-seen.ensures.class c.if-class.true))
-
-pub text_node-requires-clause-at_in_bounds : goal.text_node-requires-clause-at_in_bounds
-text_node-requires-clause-at_in_bounds c =
-    let within = token_within c.requires.at_token in
-    rw c.moved-2.ensures (omega (arith, c.past_white-seen.ensures.within), within.1)
+pub returns-then-not-in_text : goal.returns-then-not-in_text
+returns-then-not-in_text c =
+    let no_less = seen_isnt _ _ (sym c.eq.ensures ∙ c.if-eq.false) in
+    let (deep, r) = no_root _ _ c.past_white-at.ensures.is c.past_white-at.ensures.class no_less c.requires in
+    rw c.stopped-then-not-in_text.ensures
+    (rw c.in-Some.is at (content_stuck r deep _ _ c.past_white-at.ensures.is c.past_white-at.ensures.class
+    (no_text c.in-Some.is no_less (sym c.in_text.ensures ∙ c.if-not-in_text.true))))
 
 pub text_node-requires-clause-le_depth : goal.text_node-requires-clause-le_depth
 text_node-requires-clause-le_depth c =
-    let (deep, r) = no_root _ _ c.past_white-seen.ensures.is c.past_white-seen.ensures.class c.if-class-eq-LESS.false c.requires.at_token in
+    let no_less = seen_isnt _ _ (sym c.eq.ensures ∙ c.if-eq.false) in
+    let (deep, r) = no_root _ _ c.past_white-at.ensures.is c.past_white-at.ensures.class no_less c.requires in
     rw c.moved-2.ensures (
       deep,
-      (text_there r deep _ _ c.past_white-seen.ensures.is c.past_white-seen.ensures.class c.if-class-eq-LESS.false c.if-class.false).1,
+      (text_there r deep _ _ c.past_white-at.ensures.is c.past_white-at.ensures.class no_less
+          (yes_text c.in-Some.is no_less (sym c.in_text.ensures ∙ c.if-not-in_text.false))).1,
     )
 
 pub returns : goal.returns
 returns c =
-    let (deep, r) = no_root _ _ c.past_white-seen.ensures.is c.past_white-seen.ensures.class c.if-class-eq-LESS.false c.requires.at_token in
-    goes-from _ _ _ c.text_node.result (rw c.moved-2.ensures (omega (arith, c.past_white-seen.ensures.within)))
-    (c.text_node.ensures _ (rw c.moved-2.ensures (text_there r deep _ _ c.past_white-seen.ensures.is c.past_white-seen.ensures.class
-    c.if-class-eq-LESS.false c.if-class.false).0))
+    let no_less = seen_isnt _ _ (sym c.eq.ensures ∙ c.if-eq.false) in
+    let (deep, r) = no_root _ _ c.past_white-at.ensures.is c.past_white-at.ensures.class no_less c.requires in
+    goes-from _ _ _ c.text_node.result (rw c.moved-2.ensures (omega (arith, c.past_white-at.ensures.within)))
+    (c.text_node.ensures _ (rw c.moved-2.ensures (text_there r deep _ _ c.past_white-at.ensures.is c.past_white-at.ensures.class
+    no_less (yes_text c.in-Some.is no_less (sym c.in_text.ensures ∙ c.if-not-in_text.false))).0))

@@ -1,13 +1,9 @@
--- `read_runs::text_block` meets its contract.
+-- `read_runs::text_block` meets its contract: so far all bytes are a text's where the flag says so.
 use mathlib.Core.Path.{◌≡◌}
-use Prim.Native.Nat.{◌≤◌, ◌-◌}
-use lib.ListN.{take, drop}
+use lib.ListN.{take}
 use Rattle.model.specs.Lists.{every}
 use Rattle.model.specs.Written.{text_byte}
 use Rattle.read_runs.proofs.text_block.Given as goal
 
-abbrev pub invariant-loop-i : goal.invariant-loop-i
-invariant-loop-i l = (l.i ≤ 16) × (l.all ≡ every text_byte (take l.i (drop l.at l.text)))
-
-abbrev pub decreases-loop-i : goal.decreases-loop-i
-decreases-loop-i l = 16 - l.i
+abbrev pub invariant-loop-byte : goal.invariant-loop-byte
+invariant-loop-byte l = l.all ≡ every text_byte (take l.byte-index l.block)

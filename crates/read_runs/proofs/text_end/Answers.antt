@@ -1,5 +1,6 @@
 -- `read_runs::text_end` meets its contract: the run from i on ends where the run from `at` on does.
-use mathlib.Core.Path.{sym, ◌∙◌}
+use mathlib.Core.Path.{◌≡◌, sym, ◌∙◌}
+use Prim.Native.Nat.{◌+◌, ◌-◌}
 use native.Mathlib.Omega.{arith}
 use Rattle.model.specs.Written.{text_byte}
 use Rattle.read_runs.proofs.RunLaws.{run_done, run-all}
@@ -31,12 +32,12 @@ returns-then-not-text_block-clause-within c =
     (omega (arith, c.text_bytes-then-not-text_block.ensures.within), c.text_bytes-then-not-text_block.ensures.within.1)
 
 pub loop-i-preserved : goal.loop-i-preserved
-loop-i-preserved c = (
+loop-i-preserved c = let block : c.loop-i.i + 16 - c.loop-i.i ≡ 16 = omega arith in (
   omega arith,
   omega arith,
   run-all text_byte c.args.text.now
       c.loop-i.i c.loop-i.invariant.2 16 c.loop-i-test.true
-      (sym c.text_block.ensures ∙ c.if-not-text_block.false),
+      (rw block at (sym c.text_block.ensures ∙ c.if-not-text_block.false)),
 )
 
 pub returns-clause-is : goal.returns-clause-is

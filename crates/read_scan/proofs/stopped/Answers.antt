@@ -1,9 +1,11 @@
 -- `read_scan::stopped` meets its contract.
-use borrow.Author.Tests.{eq-eqb, ne_eqb}
+use mathlib.Core.Path.{sym, ◌∙◌}
+use Rattle.chars.proofs.ClassLaws.{seen_eq}
+use Rattle.chars.specs.declared.Class.TheVariants.{Forbidden}
 use Rattle.read_scan.proofs.stopped.Goals as goal
 
-pub returns-then-class-eq-FORBIDDEN : goal.returns-then-class-eq-FORBIDDEN
-returns-then-class-eq-FORBIDDEN c = rw (c.refused.ensures, eq-eqb _ _ c.if-class-eq-FORBIDDEN.true)
+pub returns-then-eq : goal.returns-then-eq
+returns-then-eq c = rw (sym (seen_eq c.args.class Forbidden) ∙ sym c.eq.ensures ∙ c.if-eq.true)
 
 pub returns : goal.returns
-returns c = rw (c.refused-2.ensures, ne_eqb _ _ c.if-class-eq-FORBIDDEN.false)
+returns c = rw (sym (seen_eq c.args.class Forbidden) ∙ sym c.eq.ensures ∙ c.if-eq.false)

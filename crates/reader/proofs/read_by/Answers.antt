@@ -1,5 +1,6 @@
 -- `reader::read_by` meets its contract.
 use native.Mathlib.Omega.{arith}
+use Rattle.std.proofs.lemmas.Result.{err_from_is_err_and}
 use Rattle.reader.proofs.Answers.{long_text, refused-form, short-buffer, filled}
 use Rattle.reader.proofs.read_by.Goals as goal
 
@@ -9,28 +10,29 @@ returns-then-text-gt-MOST_BYTES c =
     record { answer = both.0; buffer = both.1 }
 
 pub overflow_mul-nodes : goal.overflow_mul-nodes
-overflow_mul-nodes c = let w = rw c.in-Count.is at c.scan_form-scanned.ensures in omega (arith, w.few)
+overflow_mul-nodes c = omega (arith, c.in_ok-nodes.ensures.few)
 
 pub overflow_mul-result : goal.overflow_mul-result
-overflow_mul-result c = let w = rw c.in-Count.is at c.scan_form-scanned.ensures in omega (arith, w.few)
+overflow_mul-result c = omega (arith, c.in_ok-nodes.ensures.few)
 
 pub returns-then-tree-nodes : goal.returns-then-tree-nodes
 returns-then-tree-nodes c =
-    let w = rw c.in-Count.is at c.scan_form-scanned.ensures in
+    let w = c.in_ok-nodes.ensures in
     let both = short-buffer c.args.list.now c.args.text.now c.args.tree.now c.requires w (omega arith) in
     record { answer = both.0; buffer = both.1 }
 
 pub unpack-requires : goal.unpack-requires
 unpack-requires c =
-    let w = rw c.in-Count.is at c.scan_form-scanned.ensures in
+    let w = c.in_ok-nodes.ensures in
     (w.room, w.few, omega arith)
 
-pub returns-in-Error : goal.returns-in-Error
-returns-in-Error c =
-    let both = refused-form _ _ _ c.requires (rw c.in-Error.is at c.scan_form-scanned.ensures) in
-    record { answer = both.0; buffer = both.1 }
+pub returns-in_err-nodes : goal.returns-in_err-nodes
+returns-in_err-nodes c =
+    let p = err_from_is_err_and c.from_residual.result c.from_residual.ensures.1 in
+    let both = refused-form _ _ _ c.requires c.in_err-nodes.ensures in
+    rw (p.1, p.2) (record { answer = both.0; buffer = both.1 })
 
-pub returns-else-tree-nodes : goal.returns-else-tree-nodes
-returns-else-tree-nodes c =
-    let both = filled _ _ _ c.requires (rw c.in-Count.is at c.scan_form-scanned.ensures) c.if-tree-nodes.false c.unpack.ensures in
+pub returns : goal.returns
+returns c =
+    let both = filled _ _ _ c.requires c.in_ok-nodes.ensures c.if-tree-nodes.false c.unpack.ensures in
     record { answer = both.0; buffer = both.1 }

@@ -1,6 +1,6 @@
--- `tags::find` meets its contract.
+-- `tags::Table::find` meets its contract.
 use mathlib.Core.Path.{◌∙◌}
-use Rattle.tags.proofs.find.Goals as goal
+use Rattle.tags.proofs.Table.find.Goals as goal
 
 pub returns : goal.returns
 returns c = c.find_chained.ensures ∙ rw c.bucket.ensures.is
