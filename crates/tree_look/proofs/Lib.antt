@@ -1,1 +1,1 @@
-mod LookLaws
+pub mod LookLaws

@@ -1,13 +1,15 @@
 -- Bytes put into a buffer, one run after another.
 use mathlib.Core.Path.{◌≡◌, refl, sym, ap, ◌∙◌}
-use mathlib.Core.List.{List, [], ◌∷◌, ◌++◌}
-use Prim.Native.Nat.{ℕ, suc, ◌+◌, ◌≤◌, ◌<◌}
+use mathlib.Core.List.{List, [], ◌∷◌, ◌++◌, append_assoc}
+use Prim.Native.Nat.{ℕ, suc, ◌+◌, ◌-◌, ◌≤◌}
 use native.Mathlib.Nat.{add-zero}
-use native.Mathlib.Numerals.{add-one}
 use native.Mathlib.Omega.{arith}
-use lib.ListN.{length, get_or, drop, set, length-append, drop_of_length-le}
-use lib.Seq.{drop-cons, sets, length-sets, sets-eq}
-use Rattle.write_bytes.specs.Put.{stored, Put}
+use borrow.Rule.Slice.PartMut.{put_mid}
+use lib.ListN.{length, take, drop, set, length-append}
+use lib.Seq.{sets, length-sets, sets-eq}
+use Rattle.std.proofs.lemmas.List.{drop-drop}
+use Rattle.write_bytes.specs.Put.{stored, Put, Room, Writes}
+use Rattle.write_bytes.specs.declared.Form.{Form}
 
 sets_append : (xs ys l : List ℕ) (i : ℕ) → sets l i (xs ++ ys) ≡ sets (sets l i xs) (i + length xs) ys
 sets_append [] ys l i = rw add-zero
@@ -25,13 +27,16 @@ put_none l at = record { next_is = omega arith; buffer = refl }
 pub stored-put : (l : List ℕ) (at : ℕ) (xs : List ℕ) → Put l at xs (at + length xs) (stored l at xs)
 stored-put l at xs = record { next_is = refl; buffer = refl }
 
-pub put_byte : (l : List ℕ) (at b : ℕ) → Put l at (b ∷ []) (at + 1) (set l at b)
+-- a part of a buffer is overwritten
+pub put_part : (l bytes : List ℕ) (at : ℕ) {ys : List ℕ} → at + length bytes ≤ length l → ys ≡ bytes
+    → Put l at bytes (at + length bytes) (put_mid at (at + length bytes - at) l ys)
 unfolding stored
-put_byte l at b = record { next_is = refl; buffer = refl }
-
-pub put_two : (l : List ℕ) (at b d : ℕ) → Put l at (b ∷ d ∷ []) (at + 2) (set (set l at b) (at + 1) d)
-unfolding stored
-put_two l at b d = record { next_is = refl; buffer = rw add-one }
+put_part l bytes at h e = record {
+  next_is = refl;
+  buffer =
+      let k : at + length bytes - at ≡ length bytes = omega arith in
+      rw (e, k, sets-eq bytes l at h, drop-drop (length bytes) at l, append_assoc (take at l) bytes (drop (at + length bytes) l));
+}
 
 -- one run after another is one run
 pub put_then : {l m n xs ys : List ℕ} {at o p : ℕ} → Put l at xs o m → Put m o ys p n → Put l at (xs ++ ys) p n
@@ -52,28 +57,22 @@ room-first l xs ys at h = omega (arith, length-append xs ys)
 pub room-then : {l m xs : List ℕ} {at o : ℕ} (ys : List ℕ) → Put l at xs o m → at + length (xs ++ ys) ≤ length l → o + length ys ≤ length m
 room-then {xs = xs} ys h r = omega (arith, h.next_is, put-length h, length-append xs ys)
 
--- and so for the name and the tail of a tag
-module _ {l m lead : List ℕ} {at o : ℕ} (name tail : List ℕ) (h : Put l at lead o m)
-    (r : at + length (lead ++ (name ++ tail)) ≤ length l) where
-  pub room-name : o + length name ≤ length m
-  room-name = room-first m name tail o (room-then (name ++ tail) h r)
+-- ---- forms
 
-  pub room_tail : {n : List ℕ} {p : ℕ} → Put m o name p n → p + length tail ≤ length n
-  room_tail k = room-then tail k (room-then (name ++ tail) h r)
+pub then : {p q r : Form} {u v : List ℕ} → Writes p u q → Writes q v r → Writes p (u ++ v) r
+then h k = record { same = k.same ∙ h.same; is = put_then h.is k.is }
+
+pub room_here : (p : Form) (u v : List ℕ) → Room p (u ++ v) → Room p u
+room_here p u v r = room-first p.out.now u v p.at r
+
+pub room_after : {p q : Form} {u : List ℕ} (v : List ℕ) → Writes p u q → Room p (u ++ v) → Room q v
+room_after v h r = room-then v h.is r
+
+-- and so for what comes in the middle
+pub room_middle : {p q : Form} {u : List ℕ} (v w : List ℕ) → Writes p u q → Room p (u ++ (v ++ w)) → Room q v
+room_middle {q = q} v w h r = room_here q v w (room_after (v ++ w) h r)
 
 -- bytes put to the front
 pub put_front : {l m xs : List ℕ} {o : ℕ} → Put l 0 xs o m → length xs ≤ length l → m ≡ xs ++ drop (length xs) l
 unfolding stored
 put_front {l} {xs = xs} h k = let z : 0 + length xs ≡ length xs = omega arith in h.buffer ∙ (rw z at (sets-eq xs l 0 (omega arith)))
-
--- ---- a run copied byte by byte
-
-module _ (l bytes : List ℕ) (at i : ℕ) where
-  pub copy_next : i < length bytes → stored l (at + i) (drop i bytes) ≡ stored (set l (at + i) (get_or bytes i 0)) (at + (i + 1))
-      (drop (i + 1) bytes)
-  unfolding stored
-  copy_next h = let e : at + (i + 1) ≡ suc (at + i) = omega arith in rw (e, add-one i, drop-cons bytes i 0 h)
-
-  pub copy_end : length bytes ≤ i → stored l (at + i) (drop i bytes) ≡ l
-  unfolding stored
-  copy_end h = rw (drop_of_length-le bytes {i = i} h)

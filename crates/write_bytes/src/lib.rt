@@ -1,64 +1,74 @@
-// Bytes put into a buffer: each function puts bytes into `out` from `at` on, and gives the index after them.
+// The bytes of a form, put into a buffer one after another.
 #![tactic(auto)]
 
-ghost use Rattle.std.specs.Prelude.{◌+◌, ◌≤◌, length};
+ghost use Rattle.std.specs.Prelude.{◌≡◌, ◌+◌, ◌≤◌, length};
 ghost use Rattle.model.specs.Written.{source_bytes};
 ghost use Rattle.write_nodes.specs.Nodes.{span_of};
-ghost use Rattle.write_bytes.specs.Put.{Put, empty_tag, start_tag, end_tag};
+ghost use Rattle.write_bytes.specs.Put.{empty_tag, start_tag, end_tag, Room, Writes};
 
 use write_nodes::Node;
 
-fn put(out: &mut [u8], at: usize, bytes: &[u8]) -> usize
-    requires { at + length bytes.now ≤ length out.old }
-    ensures { Put out.old at bytes.now result out.new }
-{
-    let mut i = 0;
-    while i < bytes.len() {
-        out[at + i] = bytes[i];
-        i += 1;
+// A buffer that bytes are put into one after another, and the index of the next.
+#[derive(Drop)]
+pub struct Form<'a> {
+    out: &'a mut [u8],
+    at: usize,
+}
+
+impl<'a> Form<'a> {
+    // An empty form at the front of a buffer.
+    pub fn new(out: &'a mut [u8]) -> Form<'a>
+        ensures same { result.out.ghost_name ≡ out.entry.ghost_name }
+        ensures bytes { result.out.now ≡ out.old }
+        ensures at { result.at ≡ 0 }
+    {
+        Form { out, at: 0 }
     }
-    at + i
-}
 
-pub fn put_empty_tag(out: &mut [u8], at: usize, name: &[u8]) -> usize
-    requires { at + length (empty_tag name.now) ≤ length out.old }
-    ensures { Put out.old at (empty_tag name.now) result out.new }
-{
-    out[at] = b'<';
-    let end = put(out, at + 1, name);
-    out[end] = b'/';
-    out[end + 1] = b'>';
-    end + 2
-}
+    fn put(&mut self, bytes: &[u8])
+        requires { Room self.old bytes.now }
+        ensures { Writes self.old bytes.now self.new }
+    {
+        let end = self.at + bytes.len();
+        self.out[self.at..end].copy_from_slice(bytes);
+        self.at = end;
+    }
 
-pub fn put_start_tag(out: &mut [u8], at: usize, name: &[u8]) -> usize
-    requires { at + length (start_tag name.now) ≤ length out.old }
-    ensures { Put out.old at (start_tag name.now) result out.new }
-{
-    out[at] = b'<';
-    let end = put(out, at + 1, name);
-    out[end] = b'>';
-    end + 1
-}
+    pub fn put_empty_tag(&mut self, name: &[u8])
+        requires { Room self.old (empty_tag name.now) }
+        ensures { Writes self.old (empty_tag name.now) self.new }
+    {
+        self.put(b"<");
+        self.put(name);
+        self.put(b"/>");
+    }
 
-pub fn put_end_tag(out: &mut [u8], at: usize, name: &[u8]) -> usize
-    requires { at + length (end_tag name.now) ≤ length out.old }
-    ensures { Put out.old at (end_tag name.now) result out.new }
-{
-    out[at] = b'<';
-    out[at + 1] = b'/';
-    let end = put(out, at + 2, name);
-    out[end] = b'>';
-    end + 1
-}
+    pub fn put_start_tag(&mut self, name: &[u8])
+        requires { Room self.old (start_tag name.now) }
+        ensures { Writes self.old (start_tag name.now) self.new }
+    {
+        self.put(b"<");
+        self.put(name);
+        self.put(b">");
+    }
 
-// The bytes of the text that a node says.
-pub fn put_text(out: &mut [u8], at: usize, text: &[u8], node: Node) -> usize
-    requires bytes_in_bounds { node.start + node.bytes ≤ length text.now }
-    requires bytes_in_bounds_2 { at + node.bytes ≤ length out.old }
-    ensures { Put out.old at (source_bytes text.now (span_of node)) result out.new }
-{
-    let start = node.start as usize;
-    let end = start + node.bytes as usize;
-    put(out, at, &text[start..end])
+    pub fn put_end_tag(&mut self, name: &[u8])
+        requires { Room self.old (end_tag name.now) }
+        ensures { Writes self.old (end_tag name.now) self.new }
+    {
+        self.put(b"</");
+        self.put(name);
+        self.put(b">");
+    }
+
+    // The bytes of the text that a node says.
+    pub fn put_text(&mut self, text: &[u8], node: Node)
+        requires within { node.start + node.bytes ≤ length text.now }
+        requires room { self.old.at + node.bytes ≤ length self.old.out.now }
+        ensures { Writes self.old (source_bytes text.now (span_of node)) self.new }
+    {
+        let start = node.start as usize;
+        let end = start + node.bytes as usize;
+        self.put(&text[start..end]);
+    }
 }

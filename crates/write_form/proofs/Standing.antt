@@ -36,11 +36,11 @@ tagged_full name content rest (e · c) h = simp append_assoc
 
 -- ---- the first node of a document that stands in a tree
 
-module _ (list starts source tree : List ℕ) (levels i end : ℕ) (d : Document) (n : Node) where
+module _ (list source tree : List ℕ) (levels i end : ℕ) (d : Document) (n : Node) where
   -- node i is n, a text: its bytes, and then the rest
   pub record TextFirst : Type 0 where
     pub rest : Document
-    pub after : Stands list starts source tree levels (i + 1) end rest
+    pub after : Stands list source tree levels (i + 1) end rest
     pub within : n.start + n.bytes ≤ length source
     pub form : writtenD list source d ≡ source_bytes source (span_of n) ++ writtenD list source rest
 
@@ -48,9 +48,9 @@ module _ (list starts source tree : List ℕ) (levels i end : ℕ) (d : Document
   pub record ElementFirst (a : ℕ) : Type 0 where
     pub content : Document
     pub rest : Document
-    pub inside : Stands list starts source tree (levels - 1) (i + 1) (i + n.size) content
-    pub after : Stands list starts source tree levels (i + n.size) end rest
-    pub named : Tag list starts a
+    pub inside : Stands list source tree (levels - 1) (i + 1) (i + n.size) content
+    pub after : Stands list source tree levels (i + n.size) end rest
+    pub named : Tag list a
     pub deep : 0 < levels
     pub sized : 1 ≤ n.size
     pub ends : i + n.size ≤ end
@@ -58,23 +58,22 @@ module _ (list starts source tree : List ℕ) (levels i end : ℕ) (d : Document
     pub full : n.size ≢ 1 → writtenD list source d
         ≡ start_tag (name_of list a) ++ (writtenD list source content ++ (end_tag (name_of list a) ++ writtenD list source rest))
 
-module _ (list starts source tree : List ℕ) (levels i end : ℕ) (d : Document) (s : Stands list starts source tree levels i end d) where
-  -- the same names, index and words, elsewhere in the tree
+module _ (list source tree : List ℕ) (levels i end : ℕ) (d : Document) (s : Stands list source tree levels i end d) where
+  -- the same names and words, elsewhere in the tree
   elsewhere : {levels' i' end' : ℕ} {c : Document} (after_text : Bool) → end' ≤ end
       → children tree s.tags (length tree) levels' i' end' after_text ≡ passes c
-      → Yes (every (good_words source) (nodesD c)) → Stands list starts source tree levels' i' end' c
+      → Yes (every (good_words source) (nodesD c)) → Stands list source tree levels' i' end' c
   elsewhere after_text h read good = record {
     tags = s.tags;
     after_text = after_text;
     names = s.names;
-    index = s.index;
     within = omega (arith, s.within);
     read = read;
     good = good;
   }
 
   text_by : (d' : Document) → First tree s.tags levels i end d' → Yes (every (good_words source) (nodesD d')) → i < end
-      → ((a : ℕ) → symbol_of (symbol_at tree i) ≢ of_tag a) → TextFirst list starts source tree levels i end d' (node_at tree i)
+      → ((a : ℕ) → symbol_of (symbol_at tree i) ≢ of_tag a) → TextFirst list source tree levels i end d' (node_at tree i)
   unfolding nodes written good_words
   text_by d' (nothing le) good h k = absurd (omega arith)
   text_by d' (a_text {d = rest} lt sy read) good h k =
@@ -83,7 +82,7 @@ module _ (list starts source tree : List ℕ) (levels i end : ℕ) (d : Document
   text_by d' (an_element y _ _ _ _ _ _) good h k = absurd (k _ y)
 
   element_by : {a : ℕ} (d' : Document) → First tree s.tags levels i end d' → Yes (every (good_words source) (nodesD d')) → i < end
-      → symbol_of (symbol_at tree i) ≡ of_tag a → ElementFirst list starts source tree levels i end d' (node_at tree i) a
+      → symbol_of (symbol_at tree i) ≡ of_tag a → ElementFirst list source tree levels i end d' (node_at tree i) a
   unfolding nodes written
   element_by d' (nothing le) good h k = absurd (omega arith)
   element_by d' (a_text lt sy read) good h k = absurd (text≢tag (sym sy ∙ k))
@@ -96,7 +95,7 @@ module _ (list starts source tree : List ℕ) (levels i end : ℕ) (d : Document
         rest = rest;
         inside = elsewhere false le inside (every-cons (good_words source) _ (nodesD c) u).1;
         after = elsewhere false (omega arith) after v;
-        named = record { tags = s.tags; names = s.names; index = s.index; some = some; few = omega arith };
+        named = record { tags = s.tags; names = s.names; some = some; few = omega arith };
         deep = l;
         sized = omega arith;
         ends = le;
@@ -109,11 +108,11 @@ module _ (list starts source tree : List ℕ) (levels i end : ℕ) (d : Document
   stands-first = first tree s.tags levels i end s.after_text d s.within s.read
 
   pub text_first : (n : Node) → n ≡ node_at tree i → i < end → ((a : ℕ) → symbol_of n.symbol ≢ of_tag a)
-      → TextFirst list starts source tree levels i end d n
+      → TextFirst list source tree levels i end d n
   text_first n is h = rw is (text_by d stands-first s.good h)
 
   pub element_first : (n : Node) {a : ℕ} → n ≡ node_at tree i → i < end → symbol_of n.symbol ≡ of_tag a
-      → ElementFirst list starts source tree levels i end d n a
+      → ElementFirst list source tree levels i end d n a
   element_first n is h = rw is (element_by d stands-first s.good h)
 
   none_by : (d' : Document) → First tree s.tags levels i end d' → end ≤ i → writtenD list source d' ≡ []

@@ -10,6 +10,7 @@ use native.Mathlib.Omega.{arith}
 use borrow.Author.Tests.{ne_eqb}
 use lib.Dec.{eqb}
 use lib.ListN.{length}
+use Rattle.std.specs.Prelude.{Some, None}
 use Rattle.model.specs.Answers.{passes, refuses, ◌>>◌, ◌>>=◌}
 use Rattle.model.specs.Names.{names_of}
 use Rattle.model.specs.Tree.{Span, Element, text, tag, Document, ε, ◌·◌, size, sizeD, nodes, nodesD, symbol_at, size_at, span_at, of_tag}
@@ -18,18 +19,16 @@ use Rattle.model.specs.Written.{good_words, texts_checked}
 use Rattle.model.proofs.SymbolLaws.{text≢tag, tag_said}
 use Rattle.model.proofs.Tests.{Told, yea, nay, told, same, eqb_no}
 use Rattle.model.proofs.TreeLaws.{length-nodesD}
-use Rattle.offsets.specs.Lines.{Indexed}
 use Rattle.write_nodes.specs.Nodes.{node_at, TagOf}
 use Rattle.write_nodes.proofs.FirstLaws.{First, a_text, an_element, first, some_size}
 use Rattle.write_measure.specs.Lengths.{own_by, own_bytes, added, measured}
-use Rattle.write_measure.specs.declared.Own.TheVariants.{Bytes, Wrong}
 use Rattle.write_measure.proofs.LengthLaws.{own, total}
 
-module _ (list starts source tree : List ℕ) where
+module _ (list source tree : List ℕ) where
   -- node i is the element e
   pub record Is (i : ℕ) (e : Element) : Type 0 where
-    pub adds : own_bytes list source (node_at tree i) ≡ cond (good_words source e) (Bytes (own list e)) Wrong
-    pub named : TagOf list starts (symbol_at tree i)
+    pub adds : own_bytes list source (node_at tree i) ≡ cond (good_words source e) (Some (own list e)) None
+    pub named : TagOf list (symbol_at tree i)
 
   -- the nodes from node i on are these elements
   abbrev pub Listed : ℕ → List Element → Type 0
@@ -43,12 +42,12 @@ module _ (list starts source tree : List ℕ) where
   -- what an element adds, by its size
   adds_element : (i : ℕ) (c : Document) → symbol_of (symbol_at tree i) ≡ of_tag (symbol_at tree i) → size_at tree i ≡ suc (sizeD c)
       → let e = tag (symbol_at tree i) (span_at tree i) c in
-      own_bytes list source (node_at tree i) ≡ cond (good_words source e) (Bytes (own list e)) Wrong
+      own_bytes list source (node_at tree i) ≡ cond (good_words source e) (Some (own list e)) None
   unfolding own size own_bytes own_by good_words
   adds_element i ε h z = rw (h, z)
   adds_element i (e · c) h z = rw (h, ne_eqb (size_at tree i) 1 (λ q. omega (arith, some_size e)))
 
-  module _ (tags : ℕ) (names : names_of list ≡ passes tags) (index : Indexed list starts) where
+  module _ (tags : ℕ) (names : names_of list ≡ passes tags) where
     -- a document is listed where it was read
     abbrev pub Read : Document → Type 0
     Read d = (levels i end : ℕ) (after_text : Bool) → 4 * end ≤ length tree → children tree tags
@@ -69,7 +68,7 @@ module _ (list starts source tree : List ℕ) where
       record {
         adds = adds_element i c s z;
         named = λ a h. let (is, some, _) = tag_said _ h in record
-            { tags = tags; names = names; index = index; some = some; few = omega arith };
+            { tags = tags; names = names; some = some; few = omega arith };
       },
       listed-append (i + 1) (i + size_at tree i) (nodesD c) (nodesD d) (omega (arith, length-nodesD c))
           (content (levels - 1) (i + 1) (i + size_at tree i) false (omega arith) inside)
@@ -103,15 +102,15 @@ module _ (list starts source tree : List ℕ) where
 
       go : (b : Bool) → measured list source tree (length es) (i + 1) (sum + own list e) ≡
           (texts_checked source (i + 1) es >> passes (sum + own list e + total list es))
-          → (added i sum (cond b (Bytes (own list e)) Wrong) >>= measured list source tree (length es) (i + 1))
+          → (added i sum (cond b (Some (own list e)) None) >>= measured list source tree (length es) (i + 1))
           ≡ (cond b (texts_checked source (suc i) es) (refuses 11 i) >> passes (sum + (own list e + total list es)))
       go true r = r ∙ rw (add-one i, sums)
       go false r = refl
 
-  pub listed-named : (es : List Element) (i j : ℕ) → Listed i es → i ≤ j → j < i + length es → TagOf list starts (symbol_at tree j)
+  pub listed-named : (es : List Element) (i j : ℕ) → Listed i es → i ≤ j → j < i + length es → TagOf list (symbol_at tree j)
   listed-named [] i j h a b = absurd (omega arith)
   listed-named (e ∷ es) i j h a b = go (told (eqb i j)) (λ c. listed-named es (i + 1) j h.1 c (omega arith))
     where
-      go : Told (eqb i j) → (i + 1 ≤ j → TagOf list starts (symbol_at tree j)) → TagOf list starts (symbol_at tree j)
+      go : Told (eqb i j) → (i + 1 ≤ j → TagOf list (symbol_at tree j)) → TagOf list (symbol_at tree j)
       go (yea q) r = let z = same i j q in rw (← z) h.0.named
       go (nay q) r = let z : i ≢ j = eqb_no q in r (omega arith)

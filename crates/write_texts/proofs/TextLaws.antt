@@ -1,16 +1,21 @@
 -- The tests of 11: every byte of a text, its ends, and where it lies in its source.
 use mathlib.Core.Path.{◌≡◌, refl, sym, ◌∙◌}
-use mathlib.Core.Logic.{◌≢◌}
 use mathlib.Core.Bool.{Bool, true, false, not, ◌&&◌, ◌||◌, and_assoc, and-true}
 use mathlib.Core.List.{List, [], ◌∷◌}
 use Prim.Native.Nat.{ℕ, suc, ◌+◌, ◌-◌, ◌≤◌, ◌<◌}
 use native.Mathlib.Omega.{arith}
+use denote.Enum.Bare.{sameb}
 use borrow.Author.Tests.{le-leb, lt-leb}
 use lib.Dec.{eqb}
 use lib.ListN.{length, get_or, take, drop}
-use Rattle.model.specs.Bytes.{white, is, class_of, kind_of_text}
+use Rattle.std.specs.Prelude.{None}
+use Rattle.std.specs.List.{slice_get}
+use Rattle.model.specs.Bytes.{white, is, class_of, kind_of_text, text_kind}
 use Rattle.model.specs.Lists.{every}
 use Rattle.model.specs.Tree.{Span}
+use Rattle.model.specs.declared.TextKind.{TextKind}
+use Rattle.model.specs.declared.TextKind.TheVariants.{Integer, Other}
+use Rattle.model.specs.contracts.TextKind.{the_type}
 use Rattle.model.specs.Written.{text_byte, solid_byte, trimmed_text, good_text}
 use Rattle.model.proofs.ListLaws.{every-at, every-end}
 use Rattle.write_nodes.proofs.SourceLaws.{source_part}
@@ -39,30 +44,38 @@ trimmed_by (b ∷ s) h =
     go true q r = refl
     go false q r = refl
 
-pub trimmed_none : (s : List ℕ) → length s ≡ 0 → false ≡ trimmed_text s
+pub trimmed_none : (s : List ℕ) → None ≡ slice_get s 0 → false ≡ trimmed_text s
 unfolding trimmed_text
 trimmed_none [] h = refl
-trimmed_none (b ∷ s) h = absurd (omega arith)
+trimmed_none (b ∷ s) h = cc
 
-module _ (s : List ℕ) (some : length s ≢ 0) {first last : Bool} (f : first ≡ is (class_of (get_or s 0 0)) white)
-    (l : last ≡ is (class_of (get_or s (length s - 1) 0)) white) where
+-- the first byte and the last, and whether they are white
+module _ (s : List ℕ) (some : 0 < length s) {x y : ℕ} (x-is : x ≡ get_or s 0 0) (y-is : y ≡ get_or s (length s - 1) 0)
+    {first last : Bool} (f : first ≡ is (class_of x) white) (l : last ≡ is (class_of y) white) where
   pub trimmed_white : (first || last) ≡ true → false ≡ trimmed_text s
-  trimmed_white h = sym (trimmed_by s (omega arith) ∙ rw (← f, ← l, h))
+  trimmed_white h = sym (trimmed_by s some ∙ rw (← x-is, ← y-is, ← f, ← l, h))
 
   pub trimmed_solid : (first || last) ≡ false → (good : Bool) (i : ℕ) → every text_byte s ≡ (good && every text_byte (drop i s))
       → length s ≤ i → good ≡ trimmed_text s
-  trimmed_solid h good i e k = sym (trimmed_by s (omega arith) ∙ rw (← f, ← l, h) (flag_end text_byte s i good e k))
+  trimmed_solid h good i e k = sym (trimmed_by s some ∙ rw (← x-is, ← y-is, ← f, ← l, h) (flag_end text_byte s i good e k))
+
+-- ---- kinds are equal where their numbers are
+
+kinds_equal : (x y : TextKind) → sameb the_type x y ≡ eqb (text_kind x) (text_kind y)
+kinds_equal Integer Integer = refl
+kinds_equal Integer Other = refl
+kinds_equal Other Integer = refl
+kinds_equal Other Other = refl
 
 -- ---- where a text lies
 
-module _ (text : List ℕ) (w : Span) (k : ℕ) where
-  pub good_past : length text < w.start + w.bytes → false ≡ good_text text k w
+module _ (text : List ℕ) (w : Span) where
+  pub good_past : (kind : TextKind) → length text < w.start + w.bytes → false ≡ good_text text (text_kind kind) w
   unfolding good_text
-  good_past h = rw (lt-leb _ _ h)
+  good_past kind h = rw (lt-leb _ _ h)
 
-  pub good-here : {good : Bool} {kind : ℕ} → w.start + w.bytes ≤ length text
-      → good ≡ trimmed_text (take (w.start + w.bytes - w.start) (drop w.start text))
-      → kind ≡ kind_of_text (take (w.start + w.bytes - w.start) (drop w.start text))
-      → (good && eqb kind k) ≡ good_text text k w
+  pub good-here : {good same : Bool} (here kind : TextKind) {s : List ℕ} → w.start + w.bytes ≤ length text
+      → s ≡ take (w.start + w.bytes - w.start) (drop w.start text) → good ≡ trimmed_text s → text_kind here ≡ kind_of_text s
+      → same ≡ sameb the_type here kind → (good && same) ≡ good_text text (text_kind kind) w
   unfolding good_text
-  good-here h e f = rw (le-leb _ _ h, e, f, source_part text w)
+  good-here here kind h p e f s = rw (le-leb _ _ h, e, s, kinds_equal here kind, f, p, source_part text w)

@@ -2,41 +2,43 @@
 #![tactic(auto)]
 
 ghost use Rattle.std.specs.Prelude.{◌≡◌};
+ghost use Rattle.model.specs.Bytes.{text_kind};
 ghost use Rattle.model.specs.Written.{trimmed_text, good_text};
 ghost use Rattle.write_nodes.specs.Nodes.{span_of};
 
+use model::TextKind;
 use write_nodes::Node;
 
 // Whether bytes are a text that is trimmed at both ends.
 fn trimmed(s: &[u8]) -> bool
     ensures { result ≡ trimmed_text s.now }
 {
-    if s.len() == 0 {
+    let Some(first) = s.first() else {
         return false;
-    }
-    if chars::is_white(s[0]) | chars::is_white(s[s.len() - 1]) {
+    };
+    let Some(last) = s.last() else {
+        return false;
+    };
+    if chars::is_white(*first) | chars::is_white(*last) {
         return false;
     }
     // no way out of the loop, so that many bytes are tested together
     let mut good = true;
-    let mut i = 0;
-    while i < s.len() {
-        good = good & chars::in_text(s[i]);
-        i += 1;
+    for byte in s {
+        good = good & chars::in_text(*byte);
     }
     good
 }
 
 // Whether the text words of a node are those of a trimmed text of a kind.
-pub fn good_text(text: &[u8], node: Node, kind: u32) -> bool
-    ensures { result ≡ good_text text.now kind (span_of node) }
+pub fn good_text(text: &[u8], node: Node, kind: TextKind) -> bool
+    ensures { result ≡ good_text text.now (text_kind kind) (span_of node) }
 {
     // a true sum: 64 bits hold that of two words
     let start = node.start as usize;
     let end = start + node.bytes as usize;
-    if text.len() < end {
+    let Some(s) = text.get(start..end) else {
         return false;
-    }
-    let s = &text[start..end];
+    };
     trimmed(s) & (chars::kind_of(s) == kind)
 }

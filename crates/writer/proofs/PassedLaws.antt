@@ -6,13 +6,12 @@ use Prim.Native.Nat.{ℕ, ◌+◌, ◌*◌, ◌/◌, ◌≤◌}
 use native.Mathlib.Omega.{arith}
 use lib.Dec.{eqb}
 use lib.ListN.{length}
-use Rattle.model.specs.Answers.{said, Checked, passes, refuses, ◌>>=◌, ◌>>◌}
+use Rattle.std.specs.Prelude.{Ok}
+use Rattle.model.specs.Answers.{Answer, said, Checked, passes, refuses, ◌>>=◌, ◌>>◌}
 use Rattle.model.specs.Calls.{names_said, tree_said}
 use Rattle.model.specs.Tree.{tag, Document, ε, ◌·◌, nodes, symbol_at, size_at, span_at, tag_symbol, children_by, children, words, Over}
 use Rattle.model.specs.Tree.{tree_of}
 use Rattle.model.specs.Written.{written, writtenD, texts_checked}
-use Rattle.model.specs.declared.Answer.{Answer}
-use Rattle.model.specs.declared.Answer.TheVariants.{Count}
 use Rattle.model.proofs.Answered.{names-counted, tree_counted}
 use Rattle.model.proofs.CheckLaws.{passes_inj, bind_inv, required}
 use Rattle.model.proofs.DocumentLaws.{GoodNodes, texts-good}
@@ -20,7 +19,6 @@ use Rattle.model.proofs.NameLaws.{few-names}
 use Rattle.model.proofs.Tests.{Yes, and_left, and_right, same}
 use Rattle.model.proofs.TreeLaws.{length-nodes, length-words, tree_passes}
 use Rattle.model.proofs.TreeView.{tag_no_text, look-end, look_element, children-seen}
-use Rattle.offsets.specs.Lines.{Indexed}
 use Rattle.write_nodes.proofs.FirstLaws.{some_size}
 use Rattle.write_measure.specs.Lengths.{measured, Tags}
 use Rattle.write_measure.proofs.LengthLaws.{total, length-written}
@@ -40,8 +38,8 @@ one_child t g n d small some fits y z r =
     ∙ rw (next, r, children-seen t g 32 n n false fits (look-end t g 32 n n false (omega arith)))
 
 -- by the answers of the checks
-pub checks_passed : {list source tree : List ℕ} {g n : ℕ} {named shaped : Answer} → said named ≡ names_said list → named ≡ Count g
-    → length source ≤ 65535 → said shaped ≡ tree_said g tree → shaped ≡ Count n → Passed list source tree n
+pub checks_passed : {list source tree : List ℕ} {g n : ℕ} {named shaped : Answer} → said named ≡ names_said list → named ≡ Ok g
+    → length source ≤ 65535 → said shaped ≡ tree_said g tree → shaped ≡ Ok n → Passed list source tree n
 checks_passed {list} {tree = tree} {g} h k short u v =
     let (e, shape, count) = tree_counted g tree u v in
     record { tags = g; names = names-counted list h k; short = short; root = e; shape = shape; count = count }
@@ -73,40 +71,38 @@ module _ {list source tree : List ℕ} {n : ℕ} (p : Passed list source tree n)
   unfolding written
   passed-form = append-nil (written list source p.root)
 
-  module _ {starts : List ℕ} (index : Indexed list starts) where
-    nodes-listed : Listed list starts source tree 0 (nodes p.root)
-    unfolding nodes
-    nodes-listed = rw append-nil at (listed list starts source tree p.tags p.names index (p.root · ε) 32 0 n false
-        (omega (arith, tree_length)) root-read)
+  nodes-listed : Listed list source tree 0 (nodes p.root)
+  unfolding nodes
+  nodes-listed = rw append-nil at (listed list source tree p.tags p.names (p.root · ε) 32 0 n false
+      (omega (arith, tree_length)) root-read)
 
-    pub passed-tags : Tags list starts tree
-    passed-tags = record {
-      few = omega (arith, tree_length, p.count, words-over.1.few);
-      each = λ i h. listed-named list starts source tree (nodes p.root) 0 i nodes-listed (omega arith)
-          (omega (arith, tree_length, p.count, length-nodes p.root));
-    }
+  pub passed-tags : Tags list tree
+  passed-tags = record {
+    few = omega (arith, tree_length, p.count, words-over.1.few);
+    each = λ i h. listed-named list source tree (nodes p.root) 0 i nodes-listed (omega arith)
+        (omega (arith, tree_length, p.count, length-nodes p.root));
+  }
 
-    pub passed-measured : measured list source tree (length tree / 4) 0 0 ≡
-        (texts_checked source 0 (nodes p.root) >> passes (length (written list source p.root)))
-    unfolding ◌>>◌
-    passed-measured =
-        let m : length tree / 4 ≡ length (nodes p.root) = omega (arith, tree_length, p.count, length-nodes p.root) in
-        rw m (measured-listed list starts source tree (nodes p.root) 0 0 nodes-listed
-        ∙ go (texts_checked source 0 (nodes p.root)) refl)
-      where
-        go : (c : Checked (Unit {0})) → texts_checked source 0 (nodes p.root) ≡ c
-            → (c >> passes (0 + total list (nodes p.root))) ≡ (c >> passes (length (written list source p.root)))
-        go (passes u) q = ap passes (omega (arith, length-written list source p.root ((texts-good source 0 (nodes p.root)).0 q)))
-        go (refuses m i) q = refl
+  pub passed-measured : measured list source tree (length tree / 4) 0 0 ≡
+      (texts_checked source 0 (nodes p.root) >> passes (length (written list source p.root)))
+  unfolding ◌>>◌
+  passed-measured =
+      let m : length tree / 4 ≡ length (nodes p.root) = omega (arith, tree_length, p.count, length-nodes p.root) in
+      rw m (measured-listed list source tree (nodes p.root) 0 0 nodes-listed
+      ∙ go (texts_checked source 0 (nodes p.root)) refl)
+    where
+      go : (c : Checked (Unit {0})) → texts_checked source 0 (nodes p.root) ≡ c
+          → (c >> passes (0 + total list (nodes p.root))) ≡ (c >> passes (length (written list source p.root)))
+      go (passes u) q = ap passes (omega (arith, length-written list source p.root ((texts-good source 0 (nodes p.root)).0 q)))
+      go (refuses m i) q = refl
 
-    pub passed-stands : GoodNodes source (nodes p.root) → Stands list starts source tree 32 0 n (p.root · ε)
-    unfolding nodes
-    passed-stands h = record {
-      tags = p.tags;
-      after_text = false;
-      names = p.names;
-      index = index;
-      within = omega (arith, tree_length);
-      read = root-read;
-      good = rw append-nil h;
-    }
+  pub passed-stands : GoodNodes source (nodes p.root) → Stands list source tree 32 0 n (p.root · ε)
+  unfolding nodes
+  passed-stands h = record {
+    tags = p.tags;
+    after_text = false;
+    names = p.names;
+    within = omega (arith, tree_length);
+    read = root-read;
+    good = rw append-nil h;
+  }

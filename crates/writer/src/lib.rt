@@ -7,57 +7,59 @@ ghost use Rattle.model.specs.Calls.{write_said, write_out};
 ghost use Rattle.writer.specs.Passed.{Passed};
 
 use layout::{MOST_BYTES, MOST_LEVELS};
-use model::{Answer, Refusal};
+use model::Refusal;
+use offsets::MOST_NAMES;
+use write_bytes::Form;
 use write_form::{Siblings, put_children};
 use write_measure::measure;
+use write_nodes::Sources;
 
 // The form of a tree over a name list, with its texts taken from a source text, goes to the front of `out`; its number of bytes.
-pub fn write(list: &[u8], text: &[u8], tree: &[u32], out: &mut [u8]) -> Answer
+pub fn write(list: &[u8], text: &[u8], tree: &[u32], out: &mut [u8]) -> Result<usize, Refusal>
     ensures answer { said result ≡ write_said list.now text.now tree.now out.old }
     ensures buffer { out.new ≡ write_out list.now text.now tree.now out.old }
 {
-    let tags = match names::check(list) {
-        Answer::Count(tags) => tags,
-        Answer::Error(refusal) => {
-            return Answer::Error(refusal);
-        }
-    };
+    let tags = names::check(list)?;
     if MOST_BYTES < text.len() {
-        return Answer::Error(Refusal::LongText);
+        return Err(Refusal::LongText);
     }
-    match tree::check(tree, tags as u32) {
-        Answer::Count(nodes) => write_passed(list, text, tree, nodes, out),
-        Answer::Error(refusal) => Answer::Error(refusal),
-    }
+    let nodes = tree::check(tree, tags as u32)?;
+    write_passed(list, text, tree, nodes, out)
 }
 
 // The same, once a list, a text and a tree of `nodes` nodes have passed their checks.
-fn write_passed(list: &[u8], text: &[u8], tree: &[u32], nodes: usize, out: &mut [u8]) -> Answer
+fn write_passed(
+    list: &[u8],
+    text: &[u8],
+    tree: &[u32],
+    nodes: usize,
+    out: &mut [u8],
+) -> Result<usize, Refusal>
     requires { Passed list.now text.now tree.now nodes }
     ensures answer { said result ≡ write_said list.now text.now tree.now out.old }
     ensures buffer { out.new ≡ write_out list.now text.now tree.now out.old }
 {
     // where each name lies, found once
-    let mut starts = [0usize; offsets::MOST_NAMES + 1];
+    let mut starts = [0; MOST_NAMES + 1];
     offsets::index(list, &mut starts);
-    let bytes = match measure(list, &starts, text, tree) {
-        Answer::Count(bytes) => bytes,
-        Answer::Error(refusal) => {
-            return Answer::Error(refusal);
-        }
+    let sources = Sources {
+        list,
+        starts: &starts,
+        text,
+        tree,
     };
+    let bytes = measure(&sources)?;
     if MOST_BYTES < bytes {
-        return Answer::Error(Refusal::LongForm(bytes));
+        return Err(Refusal::LongForm(bytes));
     }
     if out.len() < bytes {
-        return Answer::Error(Refusal::ShortBuffer(bytes));
+        return Err(Refusal::ShortBuffer(bytes));
     }
     let root = Siblings {
         levels: MOST_LEVELS,
         first: 0,
         end: nodes,
-        at: 0,
     };
-    put_children(list, &starts, text, tree, out, root);
-    Answer::Count(bytes)
+    put_children(&sources, root, &mut Form::new(out));
+    Ok(bytes)
 }

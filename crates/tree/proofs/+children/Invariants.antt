@@ -9,9 +9,9 @@ use Rattle.tree.proofs.+children.Given as goal
 abbrev pub decreases-children : goal.decreases-children
 decreases-children l = l.levels
 
-abbrev pub invariant-loop-i : goal.invariant-loop-i
-invariant-loop-i l =
+abbrev pub invariant-loop-seen : goal.invariant-loop-seen
+invariant-loop-seen l =
     shape_at l.tree l.tags l.levels l.first l.end false ≡ shape_at l.tree l.tags l.levels l.i l.end l.after_text
 
-abbrev pub decreases-loop-i : goal.decreases-loop-i
-decreases-loop-i l = l.end - l.i
+abbrev pub decreases-loop-seen : goal.decreases-loop-seen
+decreases-loop-seen l = l.end - l.i

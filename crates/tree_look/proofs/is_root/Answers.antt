@@ -2,4 +2,4 @@
 use Rattle.tree_look.proofs.is_root.Goals as goal
 
 pub returns : goal.returns
-returns c = rw (c.is_tag.ensures, c.wide.ensures)
+returns c = rw c.is_tag.ensures

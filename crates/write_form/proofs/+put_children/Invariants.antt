@@ -7,7 +7,7 @@ abbrev pub decreases-put_children : goal.decreases-put_children
 decreases-put_children l = l.s.levels
 
 abbrev pub invariant-loop-i : goal.invariant-loop-i
-invariant-loop-i l = Loop l.list l.starts l.text l.tree l.initial.out l.s l.out l.i l.o
+invariant-loop-i l = Loop l.sources.list.now l.sources.text.now l.sources.tree.now l.s l.initial.form l.form l.i
 
 abbrev pub decreases-loop-i : goal.decreases-loop-i
 decreases-loop-i l = l.end - l.i

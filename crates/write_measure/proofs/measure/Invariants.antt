@@ -7,8 +7,7 @@ use Rattle.write_measure.proofs.measure.Given as goal
 
 abbrev pub invariant-loop-i : goal.invariant-loop-i
 invariant-loop-i l =
-    (l.i ≤ l.nodes) × (l.bytes ≤ 4294967296 * l.i) ×
-    (measured l.list l.text l.tree (length l.tree / 4) 0 0 ≡ measured l.list l.text l.tree (l.nodes - l.i) l.i l.bytes)
-
-abbrev pub decreases-loop-i : goal.decreases-loop-i
-decreases-loop-i l = l.nodes - l.i
+    let s = l.sources in
+    (l.bytes ≤ 4294967296 * l.i) ×
+    (measured s.list.now s.text.now s.tree.now (length s.tree.now / 4) 0 0
+    ≡ measured s.list.now s.text.now s.tree.now (l.nodes - l.i) l.i l.bytes)

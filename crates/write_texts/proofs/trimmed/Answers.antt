@@ -3,14 +3,21 @@ use borrow.Author.Rules.{rules}
 use Rattle.write_texts.proofs.TextLaws.{flag_next, trimmed_none, trimmed_white, trimmed_solid}
 use Rattle.write_texts.proofs.trimmed.Goals as goal
 
-pub returns-then-s-eq0 : goal.returns-then-s-eq0
-returns-then-s-eq0 c = search (trimmed_none, rules)
+pub returns-in_default : goal.returns-in_default
+returns-in_default c = trimmed_none _ c.in_default.ensures.value
 
 pub returns-then-is_white : goal.returns-then-is_white
-returns-then-is_white c = search (trimmed_white, rules)
+returns-then-is_white c =
+    let x = c.in-Some.ensures.item.3 in
+    let y = c.in-Some-last.ensures.item.3 in
+    trimmed_white _ x.0 (x.1 0) (y.1 0) c.is_white.ensures c.is_white-2.ensures c.if-is_white.true
 
-pub loop-i-preserved : goal.loop-i-preserved
-loop-i-preserved c = search (flag_next, rules)
+pub loop-byte-preserved : goal.loop-byte-preserved
+loop-byte-preserved c = search (flag_next, rules)
 
 pub returns : goal.returns
-returns c = search (trimmed_solid, rules)
+returns c =
+    let x = c.in-Some.ensures.item.3 in
+    let y = c.in-Some-last.ensures.item.3 in
+    trimmed_solid _ x.0 (x.1 0) (y.1 0) c.is_white.ensures c.is_white-2.ensures c.if-is_white.false _ _ c.loop-byte.invariant
+    c.loop-byte-test.false

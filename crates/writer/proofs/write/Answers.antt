@@ -1,30 +1,33 @@
 -- `writer::write` meets its contract: each answer is what the model says, by the checks on the way.
 use native.Mathlib.Omega.{arith}
+use Rattle.std.proofs.lemmas.Result.{err_from_is_err_and}
 use Rattle.model.proofs.Answered.{names-counted}
 use Rattle.model.proofs.NameLaws.{few-names}
 use Rattle.writer.proofs.PassedLaws.{checks_passed}
 use Rattle.writer.proofs.Outcomes.{says-names, says_text, says_tree}
 use Rattle.writer.proofs.write.Goals as goal
 
-pub returns-in-Error : goal.returns-in-Error
-returns-in-Error c =
-    let s = says-names _ _ _ _ c.check.ensures c.in-Error.is in
-    record { answer = s.0; buffer = s.1 }
+pub returns-in_err-tags : goal.returns-in_err-tags
+returns-in_err-tags c =
+    let s = says-names _ _ _ _ c.check.ensures c.in_err-tags.was in
+    let p = err_from_is_err_and c.from_residual.result c.from_residual.ensures.1 in
+    record { answer = rw (p.1, p.2) s.0; buffer = s.1 }
 
 pub returns-then-text-gt-MOST_BYTES : goal.returns-then-text-gt-MOST_BYTES
 returns-then-text-gt-MOST_BYTES c =
-    let named = names-counted _ c.check.ensures c.in-Count.is in
+    let named = names-counted _ c.check.ensures c.in_ok-tags.was in
     let s = says_text _ _ _ _ named c.if-text-gt-MOST_BYTES.true in
     record { answer = s.0; buffer = s.1 }
 
 pub overflow_cast-tags : goal.overflow_cast-tags
-overflow_cast-tags c = omega (arith, few-names _ _ (names-counted _ c.check.ensures c.in-Count.is))
+overflow_cast-tags c = omega (arith, few-names _ _ (names-counted _ c.check.ensures c.in_ok-tags.was))
 
 pub write_passed-requires : goal.write_passed-requires
-write_passed-requires c = checks_passed c.check.ensures c.in-Count.is c.if-text-gt-MOST_BYTES.false c.check-2.ensures c.in-Count-check.is
+write_passed-requires c = checks_passed c.check.ensures c.in_ok-tags.was c.if-text-gt-MOST_BYTES.false c.check-2.ensures c.in_ok-nodes.was
 
-pub returns-in-Error-check : goal.returns-in-Error-check
-returns-in-Error-check c =
-    let named = names-counted _ c.check.ensures c.in-Count.is in
-    let s = says_tree _ _ _ _ named c.if-text-gt-MOST_BYTES.false c.check-2.ensures c.in-Error-check.is in
-    record { answer = s.0; buffer = s.1 }
+pub returns-in_err-nodes : goal.returns-in_err-nodes
+returns-in_err-nodes c =
+    let named = names-counted _ c.check.ensures c.in_ok-tags.was in
+    let s = says_tree _ _ _ _ named c.if-text-gt-MOST_BYTES.false c.check-2.ensures c.in_err-nodes.was in
+    let p = err_from_is_err_and c.from_residual-in_err-nodes.result c.from_residual-in_err-nodes.ensures.1 in
+    record { answer = rw (p.1, p.2) s.0; buffer = s.1 }

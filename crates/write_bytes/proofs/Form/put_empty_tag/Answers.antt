@@ -1,0 +1,13 @@
+-- `put_empty_tag` meets its contract: the name between its brackets.
+use mathlib.Core.List.{[], ◌∷◌}
+use Rattle.write_bytes.proofs.Stores.{then, room_after, room_middle}
+use Rattle.write_bytes.proofs.Form.put_empty_tag.Goals as goal
+
+pub put-requires-2 : goal.put-requires-2
+put-requires-2 c = room_middle _ (47 ∷ 62 ∷ []) c.put.ensures c.requires
+
+pub put-requires-3 : goal.put-requires-3
+put-requires-3 c = room_after _ c.put-2.ensures (room_after _ c.put.ensures c.requires)
+
+pub returns : goal.returns
+returns c = then c.put.ensures (then c.put-2.ensures c.put-3.ensures)
