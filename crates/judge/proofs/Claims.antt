@@ -5,9 +5,8 @@ use mathlib.Core.Logic.{◌↔◌}
 use mathlib.Core.List.{List}
 use Prim.Native.Nat.{ℕ, ◌*◌, ◌≤◌}
 use lib.ListN.{length, take, drop, replicate}
-use Rattle.model.specs.declared.Judgement.{Judgement}
 use Rattle.model.specs.Lists.{◌∈◌}
-use Rattle.model.specs.Answers.{accepted, stuck, refusal, passes, said_judgement, looks_in}
+use Rattle.model.specs.Answers.{Judgement, accepted, stuck, refusal, passes, said_judgement, looks_in}
 use Rattle.model.specs.Tree.{Element, nodes, size, tree_of}
 use Rattle.model.specs.Sheet.{Sheet, sheet_of}
 use Rattle.model.specs.Relation.{AtMostOne, ReachesTwo, Single, GivesTwo, Takes, NoState, SomeState, StatesOf, Highest}

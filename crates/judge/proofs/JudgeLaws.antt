@@ -6,10 +6,9 @@ use native.Mathlib.Omega.{arith}
 use lib.ListN.{length, get_or, take, drop}
 use lib.Seq.{length-take-le, drop_at}
 use borrow.Author.Tests.{le-leb, lt-leb}
-use Rattle.model.specs.declared.Answer.{Answer}
-use Rattle.model.specs.declared.Answer.TheVariants.{Count, Error}
+use Rattle.std.specs.Prelude.{Ok, Err}
 use Rattle.model.specs.declared.Refusal.{Refusal}
-use Rattle.model.specs.Answers.{Said, refusal, said_refusal, said, passes, refuses, ◌>>=◌, ◌>>◌, require, room_for, buffer_after, looks_in}
+use Rattle.model.specs.Answers.{Said, Answer, refusal, said_refusal, said, passes, refuses, ◌>>=◌, ◌>>◌, require, room_for, buffer_after, looks_in}
 use Rattle.model.specs.Tree.{Element, size, tree_of}
 use Rattle.model.specs.Sheet.{Sheet, sheet_of}
 use Rattle.model.specs.Run.{items, run, verdict}
@@ -25,7 +24,7 @@ use Rattle.judge_run.specs.Run.{Form, verdict_on, states_on}
 
 -- A sheet that passes has its index at the front of the buffer.
 pub sheet-indexed : (s old : List ℕ) {index : List ℕ} {r : Answer} {n : ℕ} → said r ≡ sheet_said s → index ≡ index_after old s
-    → r ≡ Count n → Indexed s index
+    → r ≡ Ok n → Indexed s index
 unfolding sheet_said index_after buffer_after ◌>>=◌
 sheet-indexed s old {index} e ei c =
     let (t, p, _) = answered.counted (λ t. length s) (sheet_of s) e c in
@@ -39,7 +38,7 @@ by_tags : {s index : List ℕ} (tree : List ℕ) → Indexed s index → tree_of
 by_tags tree h = ap (λ (g : ℕ). tree_of g tree) (sym (tags-word h.sheet))
 
 pub tree_counted : {s index : List ℕ} (tree : List ℕ) → Indexed s index → {g : ℕ} → g ≡ get_or s 4 0 → {r : Answer} {n : ℕ}
-    → said r ≡ tree_said g tree → r ≡ Count n → Form s tree n
+    → said r ≡ tree_said g tree → r ≡ Ok n → Form s tree n
 tree_counted {s} tree h eg e c =
     let (f, p, n) = answered.tree_counted (get_or s 4 0) tree (rw eg at e) c in
     record { form = f; as_tree = by_tags tree h ∙ p; nodes = n }
@@ -67,13 +66,13 @@ module _ (sheet tree states : List ℕ) where
   at-nodes ok tok h = rw (ok, tok, le-leb _ _ h) (refl, refl)
 
   -- the sheet's check
-  pub sheet-refused : {r : Answer} {x : Refusal} → said r ≡ sheet_said sheet → r ≡ Error x → Promises (said_refusal x) states
+  pub sheet-refused : {r : Answer} {x : Refusal} → said r ≡ sheet_said sheet → r ≡ Err x → Promises (said_refusal x) states
   unfolding sheet_said
   sheet-refused e c = let (n, i, p, f) = answered.refused (λ s. length sheet) (sheet_of sheet) e c in rw f (at-sheet p)
 
   module _ {index : List ℕ} (h : Indexed sheet index) where
     -- the tree's
-    pub tree_refused : {g : ℕ} → g ≡ get_or sheet 4 0 → {r : Answer} {x : Refusal} → said r ≡ tree_said g tree → r ≡ Error x
+    pub tree_refused : {g : ℕ} → g ≡ get_or sheet 4 0 → {r : Answer} {x : Refusal} → said r ≡ tree_said g tree → r ≡ Err x
         → Promises (said_refusal x) states
     unfolding judge_said judge_states judge verdict_of states_after ◌>>=◌
     tree_refused eg e c =

@@ -7,26 +7,20 @@ ghost use Rattle.model.specs.Calls.{judge_said, judge_states};
 
 use judge_run::judge_nodes;
 use layout::{INDEX_WORDS, TAGS};
-use model::{Answer, Judgement, Refusal};
+use model::{Refusal, Verdict};
 
 // The verdict, with a state word for each node of the tree to the front of `states`; or 9, 10, 22 or 23. Only 23 writes,
 // a 0 for each node. At most 2 × nodes × rules looks.
-pub fn judge(sheet: &[u32], tree: &[u32], states: &mut [u32]) -> Judgement
+pub fn judge(sheet: &[u32], tree: &[u32], states: &mut [u32]) -> Result<Verdict, Refusal>
     ensures answer { said_judgement result ≡ judge_said sheet.now tree.now states.old }
     ensures states { states.new ≡ judge_states sheet.now tree.now states.old }
     ensures bound { looks_in (said_judgement result) ≤ 2 * (length tree.now / 4) * get_or sheet.now 5 0 }
 {
     let mut index = [0u32; INDEX_WORDS];
-    if let Answer::Error(refusal) = sheet::index(sheet, &mut index) {
-        return Judgement::Error(refusal);
+    sheet::index(sheet, &mut index)?;
+    let n = tree::check(tree, parts::at(sheet, TAGS))?;
+    if states.len() < n {
+        return Err(Refusal::ShortBuffer(n));
     }
-    match tree::check(tree, parts::at(sheet, TAGS)) {
-        Answer::Error(refusal) => Judgement::Error(refusal),
-        Answer::Count(n) => {
-            if states.len() < n {
-                return Judgement::Error(Refusal::ShortBuffer(n));
-            }
-            judge_nodes(sheet, &index, tree, &mut states[..n])
-        }
-    }
+    judge_nodes(sheet, &index, tree, &mut states[..n])
 }

@@ -21,7 +21,7 @@ use Rattle.model.proofs.PassedLaws.{few_words, in_range}
 use Rattle.model.proofs.IndexLaws.{rule-ends, chain_first, chain_next}
 use Rattle.judge_order.specs.Order.{StateWords, states_of, OrderPart, OrderSays}
 use Rattle.judge_count.specs.Count.{Occurs, CountPart}
-use Rattle.judge_count.proofs.SumLaws.{length-states}
+use Rattle.judge_order.proofs.OrderLaws.{length-states}
 use Rattle.judge_rules.specs.Rules.{Ruled, with_count}
 use Rattle.judge_rules.specs.declared.targets.Found.{Found}
 use Rattle.judge_rules.proofs.TargetLaws.{kinds, count-some, OnChain, chain_begun, chain_added, chain_ended, chain_less, rule-begins}
@@ -134,18 +134,22 @@ module _ {s : List ℕ} {at target : ℕ} where
       pub second-lent : CountIf s m target counts
       second-lent = count-lent here (order-ends here er t em).0 o
 
-      module _ {fits : Bool} {n reads : ℕ} (says : OrderSays (part s (at + 1) m) (states_of words) fits n) (small : n < 2 ^ 32)
-          (same : reads ≡ n) where
+      module _ {fits : Bool} {reads : ℕ} (says : OrderSays (part s (at + 1) m) (states_of words) fits reads) where
+        few_read : reads < 2 ^ 32
+        few_read = omega (arith, says.within, length-states words, ok.few)
+
         said : (c : ContentAt s at target) → (fits ≡ fits_order c.fields.order (states_of words)) ×
             (reads ≡ Words.reads c.fields.order (states_of words))
-        said c = let (p, e) = order-there c er t em in rw e (says.fitting p, same ∙ says.reading p)
+        said c = let (p, e) = order-there c er t em in rw e (says.fitting p, says.reading p)
 
-        pub unfit_tries : not fits ≡ true → Tries s at target (states_of words) false reads
-        unfit_tries e = tried here (omega arith) (λ c. let (fit, read) = said c in (rw (sym fit ∙ not-true fits e), read))
+        pub unfit_tries : not fits ≡ true → Tries s at target (states_of words) fits reads
+        unfit_tries e =
+            let unfit = not-true fits e in
+            tried here few_read (λ c. let (fit, read) = said c in (rw (sym fit ∙ unfit) unfit, read))
 
         pub ordered-tries : not fits ≡ false → {holds : Bool} → CountHolds s m target counts holds
             → Tries s at target (states_of words) holds reads
-        ordered-tries e h = tried here (omega arith) (λ c.
+        ordered-tries e h = tried here few_read (λ c.
             let (fit, read) = said c in
             (rw (sym fit ∙ not-false fits e) (count_told c (order-ends c er t em).0 o h), read))
 
@@ -199,11 +203,11 @@ pub record Trying (R : List Rule) (w : List ℕ) (i targets looks : ℕ) : Type 
   pub few : (looks ≤ i * 2 ^ 32) × (looks ≤ 2 ^ 42)
 
 module _ {s index : List ℕ} {rules : ℕ} (h : Ruled s index rules) {w : List ℕ} where
-  pub trying_begun : {word i : ℕ} → word ≡ get_or index 0 0 → i ≡ word → Trying (rules_in s) w i 0 0
-  trying_begun {i = i} ew ei =
-      let (all, _) = chain_first h.indexed (looked w) (λ x d. (apart w x d).1) (omega arith) (ei ∙ ew) in
+  pub trying_begun : {i : ℕ} → i ≡ get_or index 0 0 → Trying (rules_in s) w i 0 0
+  trying_begun {i = i} e =
+      let (all, _) = chain_first h.indexed (looked w) (λ x d. (apart w x d).1) (omega arith) e in
       record {
-        chain = chain_begun h (at_content w) (λ x d. (apart w x d).0) (omega arith) (ei ∙ ew);
+        chain = chain_begun h (at_content w) (λ x d. (apart w x d).0) (omega arith) e;
         taking = omega (arith, ap length all);
         few = omega arith;
       }

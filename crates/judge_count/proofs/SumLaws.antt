@@ -6,10 +6,11 @@ use mathlib.Core.List.{List, [], ◌∷◌, map}
 use mathlib.Core.Logic.{◌≢◌}
 use Prim.Native.Nat.{ℕ, zero, suc, ◌+◌, ◌-◌, ◌≤◌, ◌<◌, ◌*◌, ◌^◌}
 use native.Mathlib.Omega.{arith}
-use native.Mathlib.Nat.{mul-le-mul_right}
+use native.Mathlib.Nat.{zero-add, mul-le-mul_right}
+use native.Mathlib.Numerals.{add-one}
 use lib.Dec.{eqb, ltb}
-use lib.ListN.{length, get_or, drop, set, replicate, length-set, length-map, length-drop}
-use lib.Seq.{drop-cons, drop-length, get_or-set_same, get_or-set_other}
+use lib.ListN.{length, get_or, drop, set, replicate, length-set, drop_of_length-le}
+use lib.Seq.{drop-cons, get_or-set_same, get_or-set_other}
 use lib.IntN.{ℤ, pos, negsuc, neg_ℤ, nat_abs, sub_ℕ, ◌+ℤ◌, ◌*ℤ◌, +ℤ_assoc, +ℤ_idl, +ℤ_idr}
 use borrow.Author.Tests.{lt-ltb, le-ltb, ltb-true}
 use mir.Syntax.{w32}
@@ -25,6 +26,7 @@ use Rattle.model.proofs.SetWords.{members_set}
 use Rattle.bits.specs.Stands.{Stands}
 use Rattle.bits.proofs.SetLaws.{stands_none, stands-some, members_stand, stands-members, words_stand}
 use Rattle.judge_order.specs.Order.{StateWords, states_of}
+use Rattle.judge_order.proofs.OrderLaws.{length-states}
 use Rattle.judge_count.specs.Count.{Occurs, Counts, SumFrom, Summed}
 
 -- ---- different states
@@ -62,64 +64,57 @@ among_≤ l (x ∷ w) a = omega (arith, ascending_once x l a, among_≤ l w a)
 
 -- ---- counting occurrences
 
--- the counts are the occurrences from word i on
-pub record CountsFrom (words counts : List ℕ) (i : ℕ) : Type 0 where
-  pub within : i ≤ length words
+-- the counts, with the occurrences from word i on, make all
+pub record CountsTo (words counts : List ℕ) (i : ℕ) : Type 0 where
   pub long : length counts ≡ 64
-  pub each : (q : ℕ) → get_or counts q 0 ≡ occurrences q (states_of (drop i words))
+  pub each : (q : ℕ) → get_or counts q 0 + occurrences q (states_of (drop i words)) ≡ occurrences q (states_of words)
 
-pub length-states : (words : List ℕ) → length (states_of words) ≡ length words
-unfolding states_of
-length-states words = length-map words (λ x. x - 1)
-
-pub no_count : (words : List ℕ) → CountsFrom words (replicate 64 0) (length words)
-unfolding states_of occurrences
-no_count words = record { within = omega arith; long = refl; each = λ q. rw (drop-length words) (none q 64) }
+pub no_count : (words : List ℕ) → CountsTo words (replicate 64 0) 0
+no_count words = record { long = refl; each = λ q. rw (none q 64) (zero-add (occurrences q (states_of words))) }
   where
     none : (q n : ℕ) → get_or {A = ℕ} (replicate n 0) q 0 ≡ 0
     none q zero = refl
     none zero (suc n) = refl
     none (suc q) (suc n) = none q n
 
-module _ {words counts : List ℕ} {i : ℕ} (later : CountsFrom words counts i) where
-  -- the state before those is counted
-  module _ (more : 0 < i) where
+module _ {words counts : List ℕ} {i : ℕ} (so_far : CountsTo words counts i) where
+  module _ (more : i < length words) where
     abbrev here : ℕ
-    here = get_or words (i - 1) 0 - 1
+    here = get_or words i 0 - 1
 
-    with_here : (q : ℕ) → occurrences q (states_of (drop (i - 1) words)) ≡ cond (eqb q here) 1 0 + get_or counts q 0
+    -- the state in hand, before the later ones
+    with_here : (q : ℕ)
+        → get_or counts q 0 + (cond (eqb q here) 1 0 + occurrences q (states_of (drop (i + 1) words))) ≡ occurrences q (states_of words)
     unfolding states_of occurrences
-    with_here q =
-        let next : suc (i - 1) ≡ i = omega arith in
-        let split = rw next at (drop-cons words (i - 1) 0 (omega (arith, later.within))) in
-        rw (split, later.each q)
+    with_here q = rw (add-one i) (rw (drop-cons words i 0 more) at (so_far.each q))
 
     pub count_small : length words ≤ 4096 → get_or counts here 0 ≤ 4096
     unfolding only
     count_small few =
-        let w = states_of (drop i words) in
+        let w = states_of words in
         let most = among_≤ (here ∷ []) w (asc_only true here) in
-        omega (arith, among_more here [] w, later.each here, length-states (drop i words), length-drop i words)
+        omega (arith, among_more here [] w, so_far.each here, length-states words)
 
-    pub one_count : here < 64 → CountsFrom words (set counts here (get_or counts here 0 + 1)) (i - 1)
-    one_count l = record {
-      within = omega (arith, later.within);
-      long = length-set counts here _ ∙ later.long;
-      each = λ q. go q (told (eqb q here));
-    }
+    pub one_count : here < 64 → CountsTo words (set counts here (get_or counts here 0 + 1)) (i + 1)
+    one_count l = record { long = length-set counts here _ ∙ so_far.long; each = λ q. go q (told (eqb q here)) }
       where
         go : (q : ℕ) → Told (eqb q here)
-            → get_or (set counts here (get_or counts here 0 + 1)) q 0 ≡ occurrences q (states_of (drop (i - 1) words))
+            → get_or (set counts here (get_or counts here 0 + 1)) q 0 + occurrences q (states_of (drop (i + 1) words))
+            ≡ occurrences q (states_of words)
         go q (yea y) =
             let e : q ≡ here = same q here y in
-            let put = get_or-set_same counts here (get_or counts here 0 + 1) 0 (omega (arith, later.long)) in
+            let put = get_or-set_same counts here (get_or counts here 0 + 1) 0 (omega (arith, so_far.long)) in
             rw e (omega (arith, put, rw (eqb_yes {m = here} refl) at (with_here here)))
         go q (nay n) = omega (arith, rw n at (with_here q), get_or-set_other counts here q (get_or counts here 0 + 1) 0 (eqb_no n))
 
-  pub all-counted : StateWords words → i ≤ 0 → Occurs counts (states_of words)
+  pub all-counted : StateWords words → length words ≤ i → Occurs counts (states_of words)
+  unfolding states_of occurrences
   all-counted ok h =
-      let z : i ≡ 0 = omega arith in
-      record { long = later.long; each = rw z at later.each; few = omega (arith, length-states words, ok.few) }
+      record {
+        long = so_far.long;
+        each = λ q. omega (arith, rw (drop_of_length-le words {i = i} h) at (so_far.each q));
+        few = omega (arith, length-states words, ok.few);
+      }
 
 -- ---- sizes of signed numbers
 

@@ -29,11 +29,9 @@ pub fn occurrences(words: &[u32], counts: &mut [u32; STATES])
     requires { StateWords words.now × (counts.old ≡ replicate 64 0) }
     ensures { Occurs counts.new (states_of words.now) }
 {
-    let mut i = words.len();
-    while 0 < i {
-        i -= 1;
-        let q = (words[i] - 1) as usize;
-        counts[q] = counts[q] + 1;
+    for word in words {
+        let q = (*word - 1) as usize;
+        counts[q] += 1;
     }
 }
 
@@ -54,6 +52,7 @@ fn sum_at(part: &[u32], from: usize, counts: &[u32]) -> Sum
     let mut marks = bits::of_words(part[from], part[from + 1]);
     let mut at = from + 2;
     let mut total: i32 = 0;
+    // kept: no index is counted, the lowest mark goes in each pass
     while marks != 0 {
         let q = bits::lowest(marks) as usize;
         total = plus_times(total, bits::signed(part[at]), counts[q]);
@@ -63,6 +62,7 @@ fn sum_at(part: &[u32], from: usize, counts: &[u32]) -> Sum
     Sum { total, next: at }
 }
 
+// kept: the two kinds differ in their test, in its type and in how many words it reads
 // A step of kind 1: a sum is at most the bound after it.
 fn at_most(part: &[u32], sum: Sum) -> Step
     requires { sum.next < length part.now }
@@ -137,12 +137,10 @@ pub fn count_fits(part: &[u32], counts: &[u32]) -> bool
     let steps = part[0];
     let mut truths: u64 = 0;
     let mut at: usize = 1;
-    let mut i: u32 = 0;
-    while i < steps {
+    for i in 0..steps {
         let s = step_at(part, at, counts, truths);
         truths = bits::with_if(s.holds, truths, i);
         at = s.next;
-        i += 1;
     }
     bits::has(truths, steps - 1)
 }

@@ -3,7 +3,9 @@ use mathlib.Core.Path.{◌≡◌, refl, sym, ◌∙◌, subst}
 use mathlib.Core.Logic.{◌≢◌}
 use mathlib.Core.Bool.{true, false, ◌||◌, ◌&&◌}
 use mathlib.Core.List.{List, [], ◌∷◌, ◌++◌, append_assoc, append-nil}
-use mathlib.Core.Option.{Option, none, some}
+use mathlib.Core.Option.{none, some}
+use mathlib.Core.Option as options
+use Rattle.std.specs.Prelude.{Option, None, Some}
 use Prim.Native.Nat.{ℕ, ◌+◌, ◌-◌, ◌*◌, ◌≤◌, ◌<◌, zero, suc, ◌^◌}
 use native.Mathlib.Numerals.{add-one}
 use native.Mathlib.Omega.{arith}
@@ -12,6 +14,8 @@ use lib.ListN.{length, get_or, take, set, length-set, drop}
 use lib.Seq.{take-suc-set}
 use borrow.Author.Tests.{lt-ltb, le-ltb}
 use Rattle.model.specs.Lists.{has, only}
+use Rattle.model.specs.Bytes.{text_kind}
+use Rattle.model.specs.declared.TextKind.{TextKind}
 use Rattle.model.specs.Tree.{size_at, symbol_at, text_symbol, symbol_of}
 use Rattle.model.specs.Sheet.{mask, bit}
 use Rattle.model.specs.Run.{text_targets, content_targets, element_targets, element_looks, Item, items, child_words, child_states}
@@ -25,6 +29,8 @@ use Rattle.symbols.proofs.MeaningLaws.{means}
 use Rattle.bits.specs.Stands.{Stands}
 use Rattle.bits.proofs.SetLaws.{none_stands, gathers_none, gathers_more, gathers_all}
 use Rattle.judge_order.specs.Order.{StateWords, states_of}
+use Rattle.judge_rules.specs.Rules.{RulesOf}
+use Rattle.judge_rules.specs.declared.numbers.Rules.{Rules}
 use Rattle.judge_rules.specs.Found.{Finds, TagFinds}
 use Rattle.judge_rules.specs.declared.targets.Found.{Found}
 use Rattle.judge_rules.proofs.TargetLaws.{no_tag}
@@ -32,8 +38,6 @@ use Rattle.judge_contents.specs.Content.{FindsContent}
 use Rattle.judge_node.specs.Node.{Sized, Shaped, words_between, Small, words_inside, lone_states, inside_targets, inside_looks}
 use Rattle.judge_node.specs.Node.{Several, node_targets, node_looks}
 use Rattle.judge_node.specs.Judging.{Gathered, Judging, FindsInside, FindsNode}
-use Rattle.judge_node.specs.declared.Children.{Children}
-use Rattle.judge_node.specs.declared.Children.TheVariants.{Stateless, Number}
 use Rattle.judge_node.proofs.NodeLaws.{sized, words_done, words_more}
 use Rattle.judge_node.specs.declared.At.{At}
 
@@ -49,7 +53,7 @@ gather_none tree states i words = record { long = refl; few = omega arith; rest 
 
 module _ {tree states : List ℕ} {i room : ℕ} {words : List ℕ} {n at : ℕ} (g : Gathering tree states i room words n at) {size : ℕ}
     (whole : Sized tree i size) where
-  pub gather_done : i + size ≤ at → Gathered (Number n) (words_inside tree states i) words
+  pub gather_done : i + size ≤ at → Gathered (Some n) (words_inside tree states i) words
   unfolding has
   gather_done h =
       let none = words_done tree states at (i + size_at tree i) (omega (arith, whole.is)) in
@@ -137,7 +141,7 @@ lone-state (suc q) n h m =
 
 -- ---- a node, by what is inside it
 
-module _ {s index : List ℕ} {at : At} {tree states words : List ℕ} (j : Judging s index at tree states words) where
+module _ {s : List ℕ} {at : At} {tree states words : List ℕ} (j : Judging s at tree states words) where
   abbrev i : ℕ
   i = at.node
 
@@ -177,16 +181,16 @@ module _ {s index : List ℕ} {at : At} {tree states words : List ℕ} (j : Judg
       rw (words_more states _ end j.shaped child (omega arith) end-within, words_more states _ end j.shaped next several end-within)
       (omega arith)
 
-  module _ {children : Children} (left : List ℕ) (got : Gathered children (words_inside tree states i) left) where
+  module _ {children : Option ℕ} (left : List ℕ) (got : Gathered children (words_inside tree states i) left) where
     -- one of them has no state
-    pub stateless_inside : children ≡ Stateless → FindsInside (rules_in s) tree states i (record { targets = 0; looks = 0 })
+    pub stateless_inside : children ≡ None → FindsInside (rules_in s) tree states i (record { targets = 0; looks = 0 })
     unfolding inside_targets inside_looks
     stateless_inside is =
         rw (states_none (words_inside tree states i) (subst (λ y. Gathered y (words_inside tree states i) left) is got)) nothing-found
 
     -- all of them have one
-    module _ {n : ℕ} (is : children ≡ Number n) where
-      all : Gathered (Number n) (words_inside tree states i) left
+    module _ {n : ℕ} (is : children ≡ Some n) where
+      all : Gathered (Some n) (words_inside tree states i) left
       all = subst (λ y. Gathered y (words_inside tree states i) left) is got
 
       pub gathered_within : n ≤ length left
@@ -211,18 +215,15 @@ module _ {s index : List ℕ} {at : At} {tree states words : List ℕ} (j : Judg
   symbol = symbol_at tree i
 
   module _ {r : Symbol} (told : meaning r ≡ symbol_of symbol) where
-    module _ {k : ℕ} (is : r ≡ Text k) where
-      pub text_kind : (1 ≤ k) × (k ≤ 2)
-      text_kind = let (_, low, few, _) = text_said symbol (means told is) in (low, few)
-
-      pub text_found : {targets : ℕ} → Stands targets (text_targets (rules_in s) k)
-          → FindsNode (rules_in s) tree states i (record { targets = targets; looks = at.rules.ones })
+    module _ {kind : TextKind} (is : r ≡ Text kind) where
+      pub text_found : {index : List ℕ} {rules : Rules} → RulesOf s index rules → {targets : ℕ} → Stands targets (text_targets (rules_in s) (text_kind kind))
+          → FindsNode (rules_in s) tree states i (record { targets = targets; looks = rules.ones })
       unfolding node_targets node_looks
-      text_found r =
+      text_found k r =
           let (e, low, _, _) = text_said symbol (means told is) in
-          let kind : symbol - 64 ≡ k = omega arith in
-          rw (lt-ltb 64 symbol (omega arith), kind)
-          (record { reached = r; number = j.rules.texts; few = omega (arith, j.rules.few, j.rules.ruled.few) })
+          let same : symbol - 64 ≡ text_kind kind = omega arith in
+          rw (lt-ltb 64 symbol (omega arith), same)
+          (record { reached = r; number = k.texts; few = omega (arith, k.few, k.ruled.few) })
 
     module _ {a : ℕ} (is : r ≡ Tag a) where
       tag_is : (symbol ≡ a) × (1 ≤ a) × (a ≤ 64)
@@ -242,7 +243,7 @@ module _ {s index : List ℕ} {at : At} {tree states words : List ℕ} (j : Judg
           let (e, _, few) = tag_is in
           rw (le-ltb 64 symbol (omega arith), e) (go (child_states (words_inside tree states i)) h)
         where
-          go : (ws : Option (List ℕ)) → Finds (2 ^ 42) inside (inside_targets (rules_in s) ws) (inside_looks (rules_in s) ws)
+          go : (ws : options.Option (List ℕ)) → Finds (2 ^ 42) inside (inside_targets (rules_in s) ws) (inside_looks (rules_in s) ws)
               → Finds (2 ^ 43) f (element_targets (rules_in s) a ws) (element_looks (rules_in s) ws)
           go none h = rw (no_tag a (rules_in s)) at (t.found [] 0 h)
           go (some w) h = t.found _ _ h

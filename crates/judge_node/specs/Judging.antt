@@ -1,27 +1,23 @@
 -- What a node is judged by, and what is found: of its children's state words, of its content, and of the node.
-use Rattle.std.specs.Prelude.{◌≡◌, true, false, List, [], ℕ, ◌+◌, ◌^◌, ◌≤◌, ◌<◌, length, take, drop}
+use Rattle.std.specs.Prelude.{◌≡◌, true, false, List, [], ℕ, ◌+◌, ◌^◌, ◌≤◌, ◌<◌, length, take, drop, Option, None, Some}
 use Rattle.model.specs.Lists.{has}
 use Rattle.model.specs.Sheet.{Rule}
 use Rattle.model.specs.Run.{child_states}
 use Rattle.model.specs.Index.{rules_in}
-use Rattle.judge_rules.specs.Rules.{RulesOf}
 use Rattle.judge_rules.specs.Found.{Finds}
 use Rattle.judge_rules.specs.declared.targets.Found.{Found}
 use Rattle.judge_contents.specs.Content.{FindsContent}
 use Rattle.judge_node.specs.Node.{Shaped, Small, words_inside, inside_targets, inside_looks, node_targets, node_looks}
 use Rattle.judge_node.specs.declared.At.{At}
-use Rattle.judge_node.specs.declared.Children.{Children}
-use Rattle.judge_node.specs.declared.Children.TheVariants.{Stateless, Number}
 
 -- a child has no state; or these are the words, and none of them is 0
-abbrev pub Gathered : Children → (all words : List ℕ) → Type 0
-Gathered Stateless all words = has all 0 ≡ true
-Gathered (Number n) all words = (take n words ≡ all) × (n ≤ length words) × (has all 0 ≡ false)
+abbrev pub Gathered : Option ℕ → (all words : List ℕ) → Type 0
+Gathered None all words = has all 0 ≡ true
+Gathered (Some n) all words = (take n words ≡ all) × (n ≤ length words) × (has all 0 ≡ false)
 
--- A sheet with its index, the numbers of its rules and what content without children reaches; a tree, in which the nodes after this one
+-- A sheet, and what content without children reaches; a tree, in which the nodes after this one
 -- have their state words; and room to gather those of its children.
-pub record Judging (s index : List ℕ) (at : At) (tree states words : List ℕ) : Type 0 where
-  pub rules : RulesOf s index at.rules
+pub record Judging (s : List ℕ) (at : At) (tree states words : List ℕ) : Type 0 where
   pub nothing : FindsContent (rules_in s) [] at.nothing
   pub shaped : Shaped tree (length states)
   pub node : at.node < length states

@@ -8,22 +8,20 @@ ghost use Rattle.judge_node.specs.Node.{Sizes, Sized, Shaped, words_inside, lone
 ghost use Rattle.judge_node.specs.Judging.{Gathered, Judging, FindsInside, FindsNode};
 
 use judge_contents::content;
-use judge_rules::{Found, Rules, tagged, text_targets};
-use layout::{NODE_WORDS, wide};
-use symbols::{Symbol, symbol_of};
+use judge_rules::{Book, Found};
+use layout::NODE_WORDS;
+use symbols::Symbol;
 
-// The children of a node: one of them has no state, or all of them have one, and this is their number.
-#[derive(Clone, Copy)]
-enum Children {
-    Stateless,
-    Number(usize),
-}
+// no state is reached, and no look taken
+const NOTHING: Found = Found {
+    targets: 0,
+    looks: 0,
+};
 
-// A node by its number, the numbers of the sheet's rules, and what content without children reaches.
+// A node by its number, and what content without children reaches.
 #[derive(Clone, Copy)]
 pub struct At {
     pub node: usize,
-    pub rules: Rules,
     pub nothing: Found,
 }
 
@@ -32,11 +30,11 @@ fn size_at(tree: &[u32], i: usize) -> usize
     requires { Sizes tree.now × (4 * (i + 1) ≤ length tree.now) }
     ensures { Sized tree.now i result }
 {
-    wide(tree[NODE_WORDS * i + 1])
+    tree[NODE_WORDS * i + 1] as usize
 }
 
-// The state words of the children of node i, to the front of `words`.
-fn gather(tree: &[u32], states: &[u32], i: usize, words: &mut [u32]) -> Children
+// The state words of the children of node i, to the front of `words`, and their number; none where one of them has no state.
+fn gather(tree: &[u32], states: &[u32], i: usize, words: &mut [u32]) -> Option<usize>
     requires tree { Shaped tree.now (length states.now) × (i < length states.now) }
     requires room { length states.now ≤ length words.old }
     ensures { Gathered result (words_inside tree.now states.now i) words.new }
@@ -47,13 +45,13 @@ fn gather(tree: &[u32], states: &[u32], i: usize, words: &mut [u32]) -> Children
     while at < end {
         let word = states[at];
         if word == 0 {
-            return Children::Stateless;
+            return None;
         }
         words[n] = word;
         n += 1;
         at += size_at(tree, at);
     }
-    Children::Number(n)
+    Some(n)
 }
 
 // What content of one child reaches, by that child's state word: the child's state, and no rule is tried.
@@ -62,10 +60,7 @@ fn lone(word: u32) -> Found
     ensures { Finds (2 ^ 42) result (lone_states word) 0 }
 {
     if word == 0 {
-        return Found {
-            targets: 0,
-            looks: 0,
-        };
+        return NOTHING;
     }
     Found {
         targets: bits::with_if(true, 0, word - 1),
@@ -73,39 +68,23 @@ fn lone(word: u32) -> Found
     }
 }
 
+// kept: tree, states and words are lent apart, since the run writes the states between two nodes
 // What the content of a node with several children reaches: nothing where one of them has no state. `words` is lent to gather in.
-fn several(
-    sheet: &[u32],
-    index: &[u32],
-    at: At,
-    tree: &[u32],
-    states: &[u32],
-    words: &mut [u32],
-) -> Found
-    requires judging { Judging sheet.now index.now at tree.now states.now words.old }
+fn several(book: &Book<'_>, at: At, tree: &[u32], states: &[u32], words: &mut [u32]) -> Found
+    requires judging { Judging book.now.sheet.now at tree.now states.now words.old }
     requires several { Several tree.now at.node }
-    ensures { FindsInside (rules_in sheet.now) tree.now states.now at.node result }
+    ensures { FindsInside (rules_in book.now.sheet.now) tree.now states.now at.node result }
 {
-    let Children::Number(n) = gather(tree, states, at.node, words) else {
-        return Found {
-            targets: 0,
-            looks: 0,
-        };
+    let Some(n) = gather(tree, states, at.node, words) else {
+        return NOTHING;
     };
-    content(sheet, index, at.rules, &words[..n])
+    content(book, &words[..n])
 }
 
 // What the content of a node reaches, by its children: none, one or several. `words` is lent to gather in.
-fn inside(
-    sheet: &[u32],
-    index: &[u32],
-    at: At,
-    tree: &[u32],
-    states: &[u32],
-    words: &mut [u32],
-) -> Found
-    requires { Judging sheet.now index.now at tree.now states.now words.old }
-    ensures { FindsInside (rules_in sheet.now) tree.now states.now at.node result }
+fn inside(book: &Book<'_>, at: At, tree: &[u32], states: &[u32], words: &mut [u32]) -> Found
+    requires { Judging book.now.sheet.now at tree.now states.now words.old }
+    ensures { FindsInside (rules_in book.now.sheet.now) tree.now states.now at.node result }
 {
     let i = at.node;
     let size = size_at(tree, i);
@@ -117,35 +96,24 @@ fn inside(
     if end <= first + size_at(tree, first) {
         return lone(states[first]);
     }
-    several(sheet, index, at, tree, states, words)
+    several(book, at, tree, states, words)
 }
 
 // The states that a node reaches, a text or an element. `words` is lent to gather in.
-pub fn node(
-    sheet: &[u32],
-    index: &[u32],
-    at: At,
-    tree: &[u32],
-    states: &[u32],
-    words: &mut [u32],
-) -> Found
-    requires { Judging sheet.now index.now at tree.now states.now words.old }
-    ensures { FindsNode (rules_in sheet.now) tree.now states.now at.node result }
+pub fn node(book: &Book<'_>, at: At, tree: &[u32], states: &[u32], words: &mut [u32]) -> Found
+    requires { Judging book.now.sheet.now at tree.now states.now words.old }
+    ensures { FindsNode (rules_in book.now.sheet.now) tree.now states.now at.node result }
 {
-    let rules = at.rules;
-    match symbol_of(tree[NODE_WORDS * at.node]) {
+    match Symbol::from(tree[NODE_WORDS * at.node]) {
         Symbol::Text(kind) => Found {
-            targets: text_targets(sheet, index, rules.number, kind),
-            looks: rules.ones,
+            targets: book.text_targets(kind),
+            looks: book.rules.ones,
         },
         Symbol::Tag(tag) => {
-            let found = inside(sheet, index, at, tree, states, words);
-            tagged(sheet, index, rules, tag, found)
+            let found = inside(book, at, tree, states, words);
+            book.tagged(tag, found)
         }
         // no node of a tree that passes
-        Symbol::Nothing => Found {
-            targets: 0,
-            looks: 0,
-        },
+        Symbol::Nothing => NOTHING,
     }
 }

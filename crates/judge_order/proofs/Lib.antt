@@ -1,1 +1,1 @@
-mod OrderLaws
+pub mod OrderLaws

@@ -87,7 +87,7 @@ module _ {arcs words : List ℕ} {set i : ℕ} (left : ChildrenLeft arcs words s
   unfolding states_of last_set reads_from
   all-children h =
       let none : drop i words ≡ [] = drop_of_length-le words h in
-      record { last = rw (rw none at left.last) at left.stands; count = omega (arith, rw none at left.read) }
+      record { last = rw (rw none at left.last) at left.stands; count = omega (arith, rw none at left.read); within = left.within }
 
   module _ {r : ℕ} (h : i < length words)
       (step : (l : List ℕ) → Stands set l → Stands r (next_set (map arc_of arcs) l (get_or words i 0 - 1))) where
@@ -117,7 +117,7 @@ module _ {arcs words : List ℕ} {set i : ℕ} (left : ChildrenLeft arcs words s
     last_child z =
         let e : next ≡ [] = stands_none (step _ left.stands) z in
         let (last, read) = rw (e, no_last) at left_next in
-        record { last = rw (sym last) (rw e at (step _ left.stands)); count = omega arith }
+        record { last = rw (sym last) (rw e at (step _ left.stands)); count = omega arith; within = omega arith }
 
 -- ---- the whole part
 
@@ -161,11 +161,18 @@ module _ {part : List ℕ} (h : OrderPart part) where
   accepting-stands e = words_stand h.order.positions h.order.accepting h.in_range.few_positions h.in_range.accepting
       (rw h.coded at e)
 
+-- as many states as state words
+pub length-states : (words : List ℕ) → length (states_of words) ≡ length words
+unfolding states_of
+length-states [] = refl
+length-states (x ∷ words) = ap suc (length-states words)
+
 pub order-says : {part words : List ℕ} {set n accepting : ℕ} {b : Bool} → Read (take (length part - 4) (drop 4 part)) words set n
     → accepting ≡ get_or part 1 0 + get_or part 2 0 * W → b ≡ meets (members 64 set) (members 64 accepting)
     → OrderSays part (states_of words) b n
 unfolding fits_order reads
-order-says r ea eb = record {
+order-says {words = words} r ea eb = record {
   fitting = λ h. eb ∙ stands_meet (rw (arcs_are h) at r.last) (accepting-stands h ea);
   reading = λ h. rw (arcs_are h) at r.count;
+  within = rw (length-states words) r.within;
 }

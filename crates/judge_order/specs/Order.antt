@@ -34,8 +34,10 @@ ArcWords arcs = (k : ℕ) → k < length arcs → (arc_of (get_or arcs k 0)).ent
 pub record Read (arcs words : List ℕ) (set reads : ℕ) : Type 0 where
   pub last : Stands set (last_set (map arc_of arcs) (0 ∷ []) (states_of words))
   pub count : reads ≡ reads_from (map arc_of arcs) (0 ∷ []) (states_of words)
+  pub within : reads ≤ length words
 
--- whether an order part fits the child states w, and how many of them it reads
+-- whether an order part fits the child states w, and how many of them it reads, at most all
 pub record OrderSays (part w : List ℕ) (fits : Bool) (reads : ℕ) : Type 0 where
   pub fitting : (h : OrderPart part) → fits ≡ fits_order (some h.order) w
   pub reading : (h : OrderPart part) → reads ≡ words.reads (some h.order) w
+  pub within : reads ≤ length w

@@ -7,6 +7,8 @@ ghost use Rattle.model.specs.Words.{next_set};
 ghost use Rattle.bits.specs.Stands.{Stands};
 ghost use Rattle.judge_order.specs.Order.{StateWords, states_of, OrderPart, ArcWords, Read, OrderSays};
 
+use bits::Arc;
+
 // where the two words of accepting positions, and the arcs, are in an order part
 const ACCEPTING: usize = 1;
 
@@ -15,18 +17,11 @@ const ARCS: usize = 4;
 // the set of position 0 alone, with which reading begins
 const START: u64 = 1;
 
-// Whether an order part fits, and how many children it reads.
+// Whether children fit, and how many of them are read.
 #[derive(Clone, Copy)]
-pub struct OrderRead {
+pub struct Reading {
     pub fits: bool,
-    pub reads: u32,
-}
-
-// The positions after the last child that is read, and how many are read.
-#[derive(Clone, Copy)]
-struct Reading {
-    set: u64,
-    reads: u32,
+    pub reads: usize,
 }
 
 // The set of positions after a child's state is read.
@@ -35,53 +30,45 @@ fn next_set(arcs: &[u32], set: u64, state: u32) -> u64
     ensures { (l : List ℕ) → Stands set l → Stands result (next_set (map arc_of arcs.now) l state) }
 {
     let mut next: u64 = 0;
-    let mut i = 0;
-    while i < arcs.len() {
-        let arc = bits::arc_of(arcs[i]);
+    for word in arcs {
+        let arc = Arc::from(*word);
         // a branch: most arcs read another state
         if arc.reads == state {
             next = bits::with_if(bits::has(set, arc.leaves), next, arc.enters);
         }
-        i += 1;
     }
     next
 }
 
-// Reads children up to and with the one that empties the set.
-fn read_all(arcs: &[u32], words: &[u32]) -> Reading
+// The positions after children up to and with the one that empties the set, and how many are read.
+fn read_all(arcs: &[u32], words: &[u32]) -> (u64, usize)
     requires arcs { ArcWords arcs.now }
     requires words { StateWords words.now }
-    ensures { Read arcs.now words.now result.set result.reads }
+    ensures { Read arcs.now words.now result.0 result.1 }
 {
     let mut set = START;
-    let mut i = 0;
-    while i < words.len() {
-        set = next_set(arcs, set, words[i] - 1);
+    let mut reads: usize = 0;
+    for word in words {
+        set = next_set(arcs, set, *word - 1);
+        // the child that empties the set is read too
+        reads += 1;
         if set == 0 {
-            // this child is read too
-            return Reading {
-                set,
-                reads: i as u32 + 1,
-            };
+            return (set, reads);
         }
-        i += 1;
     }
-    Reading {
-        set,
-        reads: i as u32,
-    }
+    (set, reads)
 }
 
 // Whether the children with these state words fit an order part, and how many of them it reads.
-pub fn read_order(part: &[u32], words: &[u32]) -> OrderRead
+pub fn read_order(part: &[u32], words: &[u32]) -> Reading
     requires part { OrderPart part.now }
     requires words { StateWords words.now }
     ensures { OrderSays part.now (states_of words.now) result.fits result.reads }
 {
     let accepting = bits::of_words(part[ACCEPTING], part[ACCEPTING + 1]);
-    let last = read_all(&part[ARCS..], words);
-    OrderRead {
-        fits: bits::meet(last.set, accepting),
-        reads: last.reads,
+    let (last, reads) = read_all(&part[ARCS..], words);
+    Reading {
+        fits: bits::meet(last, accepting),
+        reads,
     }
 }

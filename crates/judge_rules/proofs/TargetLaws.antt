@@ -1,7 +1,8 @@
 -- The kind of a rule by its map, with the numbers of each kind; along the chain of a key, what each rule adds to a set of targets; and
 -- what an element reaches.
 use mathlib.Core.Path.{◌≡◌, refl, ap, ◌∙◌}
-use mathlib.Core.Bool.{Bool, true, cond, ◌&&◌, ◌||◌, and-false}
+use Rattle.std.specs.Int.{from_bool}
+use mathlib.Core.Bool.{Bool, true, false, cond, ◌&&◌, ◌||◌, and-false}
 use mathlib.Core.List.{List, [], ◌∷◌, flat_map}
 use mathlib.Core.Option.{none, some}
 use mathlib.Core.Logic.{◌≢◌}
@@ -11,6 +12,9 @@ use native.Mathlib.Omega.{arith}
 use lib.Dec.{eqb}
 use lib.ListN.{length, get_or, drop, drop_of_length-le}
 use lib.Seq.{drop-cons}
+use Rattle.model.specs.Bytes.{text_kind}
+use Rattle.model.specs.declared.TextKind.{TextKind}
+use Rattle.model.specs.declared.TextKind.TheVariants.{Integer, Other}
 use Rattle.model.specs.Sheet.{Rule, one, two, three, mask, bit, rule_words}
 use Rattle.model.specs.Run.{kind, of_kind, at_text, at_tag}
 use Rattle.model.specs.Spans.{RuleAt, counted}
@@ -50,6 +54,11 @@ count-some [] i l e = absurd (omega arith)
 count-some (r ∷ R) zero l e = rw e (omega arith)
 count-some (r ∷ R) (suc i) l e = omega (arith, count-some R i (omega arith) e)
 
+-- a flag as a number
+one_if : (b : Bool) {n : ℕ} → n ≡ from_bool b → (n ≡ cond b 1 0) × (n ≤ 1)
+one_if true e = (e, omega arith)
+one_if false e = (e, omega arith)
+
 -- the numbers so far, with those of the rules from the i-th on, make all
 pub record Numbering (s index : List ℕ) (number ones twos counts i : ℕ) : Type 0 where
   pub ruled : Ruled s index number
@@ -58,9 +67,8 @@ pub record Numbering (s index : List ℕ) (number ones twos counts i : ℕ) : Ty
   pub counting : counts + of_count (drop i (rules_in s)) ≡ of_count (rules_in s)
   pub few : (i ≤ number) × (ones ≤ i) × (twos ≤ i) × (counts ≤ i)
 
-pub numbering_none : {s index : List ℕ} {word number : ℕ} → Indexed s index → word ≡ get_or s 5 0 → number ≡ word
-    → Numbering s index number 0 0 0 0
-numbering_none {s} {index} {number = number} h ew en =
+pub numbering_none : {s index : List ℕ} {number : ℕ} → Indexed s index → number ≡ get_or s 5 0 → Numbering s index number 0 0 0 0
+numbering_none {s} {index} {number = number} h en =
     let all : number ≡ length (rules_in s) = omega (arith, rules-word h.sheet) in
     let few = (in_range h.sheet).few_rules in
     let ruled : Ruled s index number = record { indexed = h; all = all; room = omega (arith, index-room h); few = omega arith } in
@@ -69,10 +77,13 @@ numbering_none {s} {index} {number = number} h ew en =
 module _ {s index : List ℕ} {number ones twos counts i : ℕ} (g : Numbering s index number ones twos counts i) where
   -- the rule in hand, before the others
   pub numbering_more : i < number → {word begin map one two three : ℕ} {b : Bool} → word ≡ get_or index (67 + i) 0 → begin ≡ word % 2 ^ 16
-      → map ≡ get_or s begin 0 → (one ≡ cond (eqb map 33) 1 0) × (one ≤ 1) → (two ≡ cond (eqb map 38) 1 0) × (two ≤ 1) → b ≡ counted map
-      → (three ≡ cond b 1 0) × (three ≤ 1) → Numbering s index number (ones + one) (twos + two) (counts + three) (i + 1)
+      → map ≡ get_or s begin 0 → one ≡ from_bool (eqb map 33) → two ≡ from_bool (eqb map 38) → b ≡ counted map
+      → three ≡ from_bool b → Numbering s index number (ones + one) (twos + two) (counts + three) (i + 1)
   unfolding of_kind of_count
-  numbering_more l {map = map} ew eb em (e₁, f₁) (e₂, f₂) ec (e₃, f₃) =
+  numbering_more l {map = map} {b = b} ew eb em d₁ d₂ ec d₃ =
+      let (e₁, f₁) = one_if (eqb map 33) d₁ in
+      let (e₂, f₂) = one_if (eqb map 38) d₂ in
+      let (e₃, f₃) = one_if b d₃ in
       let R = rules_in s in
       let inside : i < length R = omega (arith, g.ruled.all) in
       let k : Kinds map (nth R i) = rw (em, eb) (kinds (nth R i) (rule-here g.ruled.indexed inside ew)) in
@@ -145,9 +156,14 @@ pub record Targets (s : List ℕ) (f : Rule → List ℕ) (k w : ℕ) (flag : �
   pub gives : {p a : ℕ} (x : Rule) → p ≤ 64 → RuleAt p s a x → key x ≡ k → (f x ≡ only (flag a) (get_or s (a + w) 0)) ×
       (a + w < length s) × (get_or s (a + w) 0 < 64)
 
-pub text_rules : {s : List ℕ} {kind : ℕ} → (1 ≤ kind) × (kind ≤ 2) → Targets s (at_text kind) kind 2 (λ a. true)
+-- a kind of text has number 1 or 2
+kind_few : (text : TextKind) → (1 ≤ text_kind text) × (text_kind text ≤ 2)
+kind_few Integer = omega arith
+kind_few Other = omega arith
+
+of_kind-rules : {s : List ℕ} {kind : ℕ} → (1 ≤ kind) × (kind ≤ 2) → Targets s (at_text kind) kind 2 (λ a. true)
 unfolding at_text key only rule_words
-text_rules {s} {kind} few = record { key-small = omega arith; apart = apart; gives = gives }
+of_kind-rules {s} {kind} few = record { key-small = omega arith; apart = apart; gives = gives }
   where
     apart : (x : Rule) → key x ≢ kind → at_text kind x ≡ []
     apart (one j q) d = rw (eqb-false {m = j} {n = kind} d)
@@ -161,6 +177,9 @@ text_rules {s} {kind} few = record { key-small = omega arith; apart = apart; giv
         (rw (target, eqb_yes e), word-within h.there 2 (omega arith), omega (arith, h.ranges))
     gives (two b c q) l h e = absurd (omega (arith, h.ranges))
     gives (three o c q) l h e = absurd (omega arith)
+
+pub text_rules : {s : List ℕ} (text : TextKind) → Targets s (at_text (text_kind text)) (text_kind text) 2 (λ a. true)
+text_rules text = of_kind-rules (kind_few text)
 
 pub tag_rules : {s : List ℕ} {tag : ℕ} (inner : ℕ) → (1 ≤ tag) × (tag ≤ 64)
     → Targets s (at_tag_with tag inner) (2 + tag) 3 (λ a. bit inner (get_or s (a + 2) 0))
@@ -193,8 +212,8 @@ tags_with tag h (three o c q ∷ R) = tags_with tag h R
 
 module _ {s index : List ℕ} {rules : ℕ} (h : Ruled s index rules) {f : Rule → List ℕ} {k w : ℕ} {flag : ℕ → Bool}
     (t : Targets s f k w flag) where
-  pub targets_begun : {at word i : ℕ} → at ≡ k → word ≡ get_or index at 0 → i ≡ word → OnChain f k (rules_in s) i 0
-  targets_begun ea ew ei = chain_begun h f t.apart t.key-small (rw (← ea) (ei ∙ ew))
+  pub targets_begun : {at i : ℕ} → at ≡ k → i ≡ get_or index at 0 → OnChain f k (rules_in s) i 0
+  targets_begun ea ei = chain_begun h f t.apart t.key-small (rw (← ea) ei)
 
   module _ {i set word begin : ℕ} (g : OnChain f k (rules_in s) i set) (l : i < rules) (ew : word ≡ get_or index (67 + i) 0)
       (eb : begin ≡ word % 2 ^ 16) where

@@ -4,5 +4,5 @@
 mod numbers;
 mod targets;
 
-pub use numbers::{Rules, count_rules};
-pub use targets::{Found, tagged, text_targets};
+pub use numbers::{Book, Rules};
+pub use targets::Found;

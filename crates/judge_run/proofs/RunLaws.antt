@@ -9,7 +9,9 @@ use lib.ListN.{length, drop, set, length-set, drop_of_length-le}
 use lib.Seq.{drop-cons, drop-set-lt, get_or-set_same, drop-length}
 use mir.Syntax.{w32}
 use mir.Val.{Fits}
-use Rattle.model.specs.Answers.{Said, refusal}
+use Rattle.std.specs.Prelude.{Ok, Err, Option, None, Some}
+use Rattle.model.specs.Answers.{Said, Answer, said_refusal}
+use Rattle.model.specs.declared.Refusal.{Refusal}
 use Rattle.model.specs.Tree.{Element, text, tag, size}
 use Rattle.model.specs.Sheet.{Rule}
 use Rattle.model.specs.Run.{Reached, nothing, just, several, gist, Item, items, ran, two_at, put, judge_node, run, root_verdict}
@@ -19,8 +21,6 @@ use Rattle.model.specs.Index.{sheet_in, rules_in, Indexed}
 use Rattle.model.proofs.TreeLaws.{tree_passes}
 use Rattle.model.proofs.RunLaws.{over_formed, RunSays, run-says}
 use Rattle.model.proofs.PassedLaws.{in_range}
-use Rattle.judge_rules.specs.Rules.{RulesOf}
-use Rattle.judge_rules.specs.declared.numbers.Rules.{Rules}
 use Rattle.judge_rules.specs.declared.targets.Found.{Found}
 use Rattle.judge_contents.specs.Content.{FindsContent}
 use Rattle.judge_node.specs.Node.{Shaped, Small, node_targets, node_looks}
@@ -28,21 +28,19 @@ use Rattle.judge_node.specs.Judging.{Judging, FindsNode}
 use Rattle.judge_node.proofs.NodeLaws.{items_at, tree_shaped, node_judged}
 use Rattle.judge_states.specs.States.{Word, WordOf}
 use Rattle.judge_run.specs.Run.{Form, Ends, verdict_on, states_on}
-use Rattle.judge_run.specs.declared.Outcome.{Outcome}
-use Rattle.judge_run.specs.declared.Outcome.TheVariants.{All, Two}
 
 -- ---- the loop
 
--- a word other than 65 is put before those of the later nodes; 65 says that two states are reached
-pub put_word : (g : Reached) {w : ℕ} → Word g w → w ≢ 65 → (looks : ℕ) (st : List ℕ) (m : ℕ) →
+-- a word is put before those of the later nodes; none says that two states are reached
+pub put_word : (g : Reached) {o : Option ℕ} {w : ℕ} → Word g o → o ≡ Some w → (looks : ℕ) (st : List ℕ) (m : ℕ) →
     (put g looks st m ≡ ran (w ∷ st) (looks + m)) × (w ≤ 64)
-put_word nothing e n looks st m = (rw e, omega arith)
-put_word (just q) (e, small) n looks st m = (rw e, small)
-put_word several e n looks st m = absurd (n e)
+put_word nothing {w = w} e k looks st m = let z : w ≡ 0 = cc in (rw z, omega arith)
+put_word (just q) {w = w} (e, small) k looks st m = let z : w ≡ suc q = cc in (rw z, omega arith)
+put_word several e k looks st m = let z : ◌≡◌ {A = ℕ} 0 1 = cc in absurd (omega arith)
 
-pub put_two : (g : Reached) {w : ℕ} → Word g w → w ≡ 65 → (looks : ℕ) (st : List ℕ) (m : ℕ) → put g looks st m ≡ two_at 0
-put_two nothing e t looks st m = absurd (omega arith)
-put_two (just q) (e, small) t looks st m = absurd (omega arith)
+pub put_two : (g : Reached) {o : Option ℕ} → Word g o → o ≡ None → (looks : ℕ) (st : List ℕ) (m : ℕ) → put g looks st m ≡ two_at 0
+put_two nothing e t looks st m = let z : ◌≡◌ {A = ℕ} 0 1 = cc in absurd (omega arith)
+put_two (just q) (e, small) t looks st m = let z : ◌≡◌ {A = ℕ} 0 1 = cc in absurd (omega arith)
 put_two several e t looks st m = refl
 
 -- a later node that reaches two states decides
@@ -92,13 +90,11 @@ module _ {R : List Rule} {tree : List ℕ} {n i : ℕ} {states : List ℕ} {look
       (rw e at (node_judged R tree states (i - 1) looks))
 
   -- what its judging asks
-  pub running_judging : {s index words : List ℕ} {rules : Rules} {nothing : Found} → RulesOf s index rules
-      → FindsContent (rules_in s) [] nothing → n ≤ length words
-      → Judging s index (record { node = i - 1; rules = rules; nothing = nothing }) tree states words
-  running_judging k f room =
+  pub running_judging : {s words : List ℕ} {nothing : Found} → FindsContent (rules_in s) [] nothing → n ≤ length words
+      → Judging s (record { node = i - 1; nothing = nothing }) tree states words
+  running_judging f room =
       let e : i - 1 + 1 ≡ i = omega arith in
       record {
-        rules = k;
         nothing = f;
         shaped = rw g.long g.shaped;
         node = omega (arith, g.within, g.long);
@@ -106,15 +102,15 @@ module _ {R : List Rule} {tree : List ℕ} {n i : ℕ} {states : List ℕ} {look
         room = omega (arith, g.long);
       }
 
-  module _ {found : Found} (w : ℕ) (f : FindsNode R tree states (i - 1) found) (word : WordOf found.targets w) where
-    pub running_two : w ≡ 65 → run R (items tree) ≡ two_at (i - 1)
+  module _ {found : Found} {o : Option ℕ} (f : FindsNode R tree states (i - 1) found) (word : WordOf found.targets o) where
+    pub running_two : o ≡ None → run R (items tree) ≡ two_at (i - 1)
     running_two e =
         let z : i - 1 + 0 ≡ i - 1 = omega arith in
         let within : i - 1 ≤ length (items tree) = omega (arith, g.shaped.all, g.within) in
         rw z at (two_decides R (i - 1) 0 (items tree) within (judged ∙ put_two reach (word.says _ f.reached) e _ _ _))
 
-    pub running_more : w ≢ 65 → {left : List ℕ} → left ≡ set states (i - 1) w → Running R tree n (i - 1) left (looks + found.looks)
-    running_more d el =
+    pub running_more : {w : ℕ} → o ≡ Some w → {left : List ℕ} → left ≡ set states (i - 1) w → Running R tree n (i - 1) left (looks + found.looks)
+    running_more {w} d el =
         let (e, small) = put_word reach (word.says _ f.reached) d (node_looks R tree states (i - 1)) (drop i states) looks in
         let next : suc (i - 1) ≡ i = omega arith in
         let room : i - 1 < length states = omega (arith, g.within, g.long) in
@@ -138,7 +134,7 @@ module _ {s index tree : List ℕ} {n : ℕ} (h : Indexed s index) (f : Form s t
   form-shaped = rw f.nodes at (tree_shaped (in_range h.sheet).few_tags f.as_tree)
 
   -- looks fit 32 bits
-  pub looks_fit : (old left : List ℕ) {x : Outcome} {m : ℕ} → Ends s tree old x left → x ≡ All m → Fits w32 m
+  pub looks_fit : (old left : List ℕ) {x : Answer} {m : ℕ} → Ends s tree old x left → x ≡ Ok m → Fits w32 m
   looks_fit old left {m = m} ends is =
       let e = subst (λ y. Ends s tree old y left) is ends in
       let R = rules_in s in
@@ -162,12 +158,12 @@ form-some f = rw f.nodes at (go f.form)
 
 -- ---- the outcome of the run, by its case
 
-module _ {x : Outcome} (s tree old left : List ℕ) (ends : Ends s tree old x left) where
-  pub all_said : {m : ℕ} → x ≡ All m → {v : Said} → v ≡ root_verdict (sheet_in s).final left m → (v ≡ verdict_on s tree) ×
+module _ {x : Answer} (s tree old left : List ℕ) (ends : Ends s tree old x left) where
+  pub all_said : {m : ℕ} → x ≡ Ok m → {v : Said} → v ≡ root_verdict (sheet_in s).final left m → (v ≡ verdict_on s tree) ×
       (left ≡ states_on s tree old)
   unfolding verdict first_states
   all_said e ev = rw (subst (λ y. Ends s tree old y left) e ends) (ev, refl)
 
-  pub two_said : {i : ℕ} → x ≡ Two i → (refusal 23 i ≡ verdict_on s tree) × (left ≡ states_on s tree old)
-  unfolding verdict first_states
-  two_said e = let (two, zeros) = subst (λ y. Ends s tree old y left) e ends in rw two (refl, zeros)
+  pub two_said : {r : Refusal} → x ≡ Err r → (said_refusal r ≡ verdict_on s tree) × (left ≡ states_on s tree old)
+  unfolding said_refusal verdict first_states
+  two_said e = let (i, at, two, zeros) = subst (λ y. Ends s tree old y left) e ends in rw (at, two) (refl, zeros)

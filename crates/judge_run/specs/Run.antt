@@ -1,12 +1,11 @@
 -- What a run is lent, and what it comes to.
-use Rattle.std.specs.Prelude.{◌≡◌, List, ℕ, length, replicate}
-use Rattle.model.specs.Answers.{Said, passes}
+use Rattle.std.specs.Prelude.{◌≡◌, List, ℕ, length, replicate, Ok, Err}
+use Rattle.model.specs.Answers.{Said, Answer, passes}
+use Rattle.model.specs.declared.Refusal.TheVariants.{TwoStates}
 use Rattle.model.specs.Tree.{Element, size, tree_of}
 use Rattle.model.specs.Run.{ran, two_at, items, run, verdict}
 use Rattle.model.specs.Calls.{first_states}
 use Rattle.model.specs.Index.{sheet_in, rules_in}
-use Rattle.judge_run.specs.declared.Outcome.{Outcome}
-use Rattle.judge_run.specs.declared.Outcome.TheVariants.{All, Two}
 
 -- the words of a form of n nodes, over the tags of the sheet s
 pub record Form (s tree : List ℕ) (n : ℕ) : Type 0 where
@@ -15,9 +14,9 @@ pub record Form (s tree : List ℕ) (n : ℕ) : Type 0 where
   pub nodes : size form ≡ n
 
 -- The nodes have their state words; or one of them reaches two states, and then all state words are 0.
-abbrev pub Ends : (s tree old : List ℕ) → Outcome → (states : List ℕ) → Type 0
-Ends s tree old (All looks) states = run (rules_in s) (items tree) ≡ ran states looks
-Ends s tree old (Two i) states = (run (rules_in s) (items tree) ≡ two_at i) × (states ≡ replicate (length old) 0)
+abbrev pub Ends : (s tree old : List ℕ) → Answer → (states : List ℕ) → Type 0
+Ends s tree old (Ok looks) states = run (rules_in s) (items tree) ≡ ran states looks
+Ends s tree old (Err r) states = (i : ℕ) × (r ≡ TwoStates i) × (run (rules_in s) (items tree) ≡ two_at i) × (states ≡ replicate (length old) 0)
 
 -- what is said of a tree by a sheet, both of which pass, and the state words in place of `old`
 abbrev pub verdict_on : (s tree : List ℕ) → Said

@@ -9,48 +9,38 @@ ghost use Rattle.judge_run.specs.Run.{Form, Ends, verdict_on, states_on};
 
 use judge_contents::content;
 use judge_node::{At, node};
-use judge_rules::count_rules;
-use judge_states::{SEVERAL, clear, keep, state_word, verdict};
+use judge_rules::Book;
+use judge_states::{clear, state_word, verdict};
 use layout::{INDEX_WORDS, MOST_NODES};
-use model::{Judgement, Refusal};
+use model::{Refusal, Verdict};
 
-// What a run comes to.
-#[derive(Clone, Copy)]
-enum Outcome {
-    // every node has its state word; the looks
-    All(usize),
-    // the highest-numbered node that reaches two states
-    Two(usize),
-}
-
-// Judge every node; `words` is lent to gather in. Where a node reaches two states, no node has one.
-fn run(sheet: &[u32], index: &[u32], tree: &[u32], states: &mut [u32], words: &mut [u32]) -> Outcome
+// Judges every node, and gives the looks; `words` is lent to gather in. Where a node reaches two states, no node has one.
+fn run(
+    sheet: &[u32],
+    index: &[u32],
+    tree: &[u32],
+    states: &mut [u32],
+    words: &mut [u32],
+) -> Result<usize, Refusal>
     requires index { Indexed sheet.now index.now }
     requires tree { Shaped tree.now (length states.old) × (length states.old ≤ length words.old) }
     ensures { Ends sheet.now tree.now states.old result states.new }
 {
-    let rules = count_rules(sheet, index);
+    let book = Book::new(sheet, index);
     // content without children is the same wherever it is
-    let nothing = content(sheet, index, rules, &words[..0]);
+    let nothing = content(&book, &words[..0]);
     let mut looks: usize = 0;
-    let mut i = states.len();
-    while 0 < i {
-        i -= 1;
-        let at = At {
-            node: i,
-            rules,
-            nothing,
-        };
-        let found = node(sheet, index, at, tree, states, words);
-        let word = state_word(found.targets);
-        if word == SEVERAL {
+    for i in (0..states.len()).rev() {
+        let at = At { node: i, nothing };
+        let found = node(&book, at, tree, states, words);
+        let Some(word) = state_word(found.targets) else {
             clear(states);
-            return Outcome::Two(i);
-        }
-        keep(states, i, word);
+            return Err(Refusal::TwoStates(i));
+        };
+        states[i] = word;
         looks += found.looks;
     }
-    Outcome::All(looks)
+    Ok(looks)
 }
 
 // The verdict of a sheet and a tree that pass, with a state word for each node.
@@ -59,15 +49,13 @@ pub fn judge_nodes(
     index: &[u32; INDEX_WORDS],
     tree: &[u32],
     states: &mut [u32],
-) -> Judgement
+) -> Result<Verdict, Refusal>
     requires index { Indexed sheet.now index.now }
     requires tree { Form sheet.now tree.now (length states.old) }
     ensures answer { said_judgement result ≡ verdict_on sheet.now tree.now }
     ensures states { states.new ≡ states_on sheet.now tree.now states.old }
 {
     let mut words = [0u32; MOST_NODES];
-    match run(sheet, index, tree, states, &mut words) {
-        Outcome::Two(i) => Judgement::Error(Refusal::TwoStates(i)),
-        Outcome::All(looks) => verdict(sheet, states, looks as u32),
-    }
+    let looks = run(sheet, index, tree, states, &mut words)?;
+    Ok(verdict(sheet, states, looks as u32))
 }

@@ -3,14 +3,14 @@ use mathlib.Core.Path.{◌≡◌, refl, sym, ap, ◌∙◌}
 use mathlib.Core.Logic.{◌≢◌}
 use mathlib.Core.Bool.{Bool, true, false, cond}
 use mathlib.Core.List.Memᴰ
-use mathlib.Core.List.{List, [], ◌∷◌, ◌++◌, append-nil}
+use mathlib.Core.List.{List, [], ◌∷◌}
 use Prim.Native.Nat.{ℕ, zero, suc, ◌+◌, ◌-◌, ◌*◌, ◌/◌, ◌%◌, ◌^◌, ◌≤◌, ◌<◌}
 use native.Mathlib.Numerals.{add-one}
 use native.Mathlib.Omega.{arith}
 use lib.Dec.{eqb}
-use lib.ListN.{length, get_or, drop, set, replicate, length-set, length-drop, drop_of_length-le}
-use lib.Seq.{drop-cons, drop-length}
-use borrow.Author.Fill.{fill_none, fill_more}
+use lib.ListN.{length, get_or, drop, length-drop, drop_of_length-le}
+use lib.Seq.{drop-cons}
+use Rattle.std.specs.Prelude.{None, Some}
 use Rattle.model.specs.Lists.{◌∈◌, has}
 use Rattle.model.specs.Answers.{accepted, refused, stuck}
 use Rattle.model.specs.Sheet.{W, bit, mask, members}
@@ -26,7 +26,7 @@ use Rattle.judge_states.specs.States.{WordOf}
 
 -- ---- the state word of a set
 
-pub word_none : {targets : ℕ} → targets ≡ 0 → WordOf targets 0
+pub word_none : {targets : ℕ} → targets ≡ 0 → WordOf targets (Some 0)
 unfolding gist
 word_none e = record { says = λ l s. rw (stands_none s e) }
 
@@ -41,42 +41,18 @@ low_small {targets} small n lowest =
 
 -- with other members beside the lowest, and without
 module _ {targets rest : ℕ} (others : members 64 rest ≡ drop 1 (members 64 targets)) (fits : rest < 2 ^ 64) where
-  pub word_several : rest ≢ 0 → WordOf targets 65
+  pub word_several : rest ≢ 0 → WordOf targets None
   word_several n =
       let (x, xs, e) = stands-some (members_stand fits) n in
       let two : 1 < length (members 64 targets) = omega (arith, length-drop 1 (members 64 targets), ap length (sym others ∙ e)) in
       record { says = λ l s. rw (gist_several s (omega arith) (omega arith)) }
 
-  pub word_one : targets < 2 ^ 64 → targets ≢ 0 → rest ≡ 0 → {low : ℕ} → low ≡ get_or (members 64 targets) 0 64 → WordOf targets (low + 1)
+  pub word_one : targets < 2 ^ 64 → targets ≢ 0 → rest ≡ 0 → {low : ℕ} → low ≡ get_or (members 64 targets) 0 64 → WordOf targets (Some (low + 1))
   word_one small n z {low} lowest =
       let (x, xs, e) = stands-some (members_stand small) n in
       let none = ap length (sym others ∙ stands_none (members_stand fits) z) in
       let one : length (members 64 targets) ≡ 1 = omega (arith, length-drop 1 (members 64 targets), ap length e) in
-      record { says = λ l s. rw (gist_just s one, ← lowest) (add-one low, omega (arith, low_small small n lowest)) }
-
--- ---- all state words 0
-
--- the first i words are 0 in place of those of `old`
-pub record Clearing (old states : List ℕ) (i : ℕ) : Type 0 where
-  pub within : i ≤ length old
-  pub long : length states ≡ length old
-  pub zeros : states ≡ replicate i 0 ++ drop i old
-
-pub clearing_none : (old : List ℕ) → Clearing old old 0
-clearing_none old = record { within = omega arith; long = refl; zeros = fill_none old 0 }
-
-module _ {old states : List ℕ} {i : ℕ} (g : Clearing old states i) where
-  pub clearing_more : i < length states → Clearing old (set states i 0) (i + 1)
-  clearing_more h = record {
-    within = omega (arith, g.long);
-    long = length-set states i 0 ∙ g.long;
-    zeros = ap (λ (l : List ℕ). set l i 0) g.zeros ∙ fill_more i 0 old (omega (arith, g.long));
-  }
-
-  pub clearing_all : length states ≤ i → states ≡ replicate (length old) 0
-  clearing_all h =
-      let e : i ≡ length old = omega (arith, g.long, g.within) in
-      g.zeros ∙ rw (e, drop-length old) (append-nil (replicate (length old) 0))
+      record { says = λ l s. rw (gist_just s one, ← lowest) (ap Some (add-one low), omega (arith, low_small small n lowest)) }
 
 -- ---- the verdict
 
@@ -93,28 +69,23 @@ last_zero_at (s ∷ st) zero h e n = rw n
 last_zero_at (s ∷ st) (suc i) h e n =
     rw (zero_has st i (omega arith) e) (ap suc (last_zero_at st i (omega arith) e (rw (add-one i) (rw (add-one (suc i)) at n))))
 
--- no state word after node i is 0
-pub record Seeking (st : List ℕ) (i : ℕ) : Type 0 where
-  pub within : i < length st
-  pub none : has (drop (i + 1) st) 0 ≡ false
-
-pub seek_start : (st : List ℕ) → 0 < length st → Seeking st (length st - 1)
+-- no word from node i on is 0
+zero_absent : (st : List ℕ) (i : ℕ) → ((k : ℕ) → i ≤ k → k < length st → get_or st k 0 ≢ 0) → has (drop i st) 0 ≡ false
 unfolding has
-seek_start st h = record { within = omega arith; none = rw (drop_of_length-le st {i = length st - 1 + 1} (omega arith)) }
+zero_absent [] i others = rw (drop_of_length-le {A = ℕ} [] {i = i} (omega arith)) refl
+zero_absent (s ∷ st) zero others =
+    rw (eqb-false {m = 0} {n = s} (λ e. others 0 (omega arith) (omega arith) (sym e)))
+    (zero_absent st 0 (λ k l h. others (suc k) (omega arith) (omega arith)))
+zero_absent (s ∷ st) (suc i) others = zero_absent st i (λ k l h. others (suc k) (omega arith) (omega arith))
 
-module _ {st : List ℕ} {i : ℕ} (g : Seeking st i) where
-  pub seek_found : get_or st i 0 ≡ 0 → i ≡ last_zero st
-  seek_found e = sym (last_zero_at st i g.within e g.none)
+pub last_zero_found : (st : List ℕ) (i : ℕ) → i < length st → get_or st i 0 ≡ 0
+    → ((k : ℕ) → i + 1 ≤ k → k < length st → get_or st k 0 ≢ 0) → i ≡ last_zero st
+last_zero_found st i h e others = sym (last_zero_at st i h e (zero_absent st (i + 1) others))
 
-  pub seek_more : get_or st 0 0 ≡ 0 → get_or st i 0 ≢ 0 → (1 ≤ i) × Seeking st (i - 1)
-  unfolding has
-  seek_more z d =
-      let later : i ≢ 0 = λ e. d (rw e z) in
-      let f : i - 1 + 1 ≡ i = omega arith in
-      let here = eqb-false {m = 0} {n = get_or st i 0} (λ k. d (sym k)) in (
-        omega arith,
-        record { within = omega (arith, g.within); none = rw (f, drop-cons st i 0 g.within, here) (rw (add-one i) at g.none) },
-      )
+pub last_zero_none : (st : List ℕ) → ((k : ℕ) → k < length st → get_or st k 0 ≢ 0) → 0 ≡ last_zero st
+unfolding last_zero
+last_zero_none [] others = refl
+last_zero_none (s ∷ st) others = rw (zero_absent st 0 (λ k l h. others (suc k) (omega arith))) refl
 
 -- the final states of a sheet that passes
 pub final-stands : {s : List ℕ} → Passes s → {r : ℕ} → r ≡ get_or s 2 0 + get_or s 3 0 * W → Stands r (sheet_in s).final

@@ -4,11 +4,11 @@ use borrow.Author.Rules.{rules}
 use Rattle.judge_contents.proofs.ContentLaws.{several_found}
 use Rattle.judge_contents.proofs.content.Goals as goal
 
-pub try_all-requires-clause-words : goal.try_all-requires-clause-words
-try_all-requires-clause-words c = (search rules, record { known = λ l. absurd (omega arith) })
+pub try_all-requires : goal.try_all-requires
+try_all-requires c = (search rules, record { known = λ l. absurd (omega arith) })
 
-pub returns-then-rules-eq0 : goal.returns-then-rules-eq0
-returns-then-rules-eq0 c = search (several_found, rules)
+pub returns-then-book-eq0 : goal.returns-then-book-eq0
+returns-then-book-eq0 c = search (several_found, rules)
 
 pub returns : goal.returns
 returns c = search (several_found, rules)

@@ -5,19 +5,19 @@ use Rattle.judge_contents.proofs.ContentLaws.{trying_begun, ends_some, next-cont
 use Rattle.judge_contents.proofs.try_all.Goals as goal
 
 pub loop-i-init : goal.loop-i-init
-loop-i-init c = search (trying_begun, rules)
+loop-i-init c = search (trying_begun c.args.book.now.known.ruled, rules)
 
 pub overflow_sub-target : goal.overflow_sub-target
-overflow_sub-target c = search (ends_some, rules)
+overflow_sub-target c = search (ends_some c.args.book.now.known.ruled, rules)
 
 pub try_rule-tried-requires-clause-rule : goal.try_rule-tried-requires-clause-rule
-try_rule-tried-requires-clause-rule c = (search (next-content, rules), search (next-counted, rules))
+try_rule-tried-requires-clause-rule c = (search (next-content c.args.book.now.known.ruled, rules), search (next-counted c.args.book.now.known.ruled, rules))
 
 pub loop-i-smaller : goal.loop-i-smaller
-loop-i-smaller c = search (chain_nearer, rules)
+loop-i-smaller c = search (chain_nearer c.args.book.now.known.ruled, rules)
 
 pub loop-i-preserved : goal.loop-i-preserved
-loop-i-preserved c = search (trying_more, rules)
+loop-i-preserved c = search (trying_more c.args.book.now.known.ruled, rules)
 
 pub returns : goal.returns
-returns c = search (trying_ended, rules)
+returns c = search (trying_ended c.args.book.now.known.ruled, rules)

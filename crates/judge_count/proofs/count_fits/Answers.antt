@@ -13,9 +13,6 @@ loop-i-init c = search (no_step, rules)
 pub step_at-s-requires : goal.step_at-s-requires
 step_at-s-requires c = search (step-here, rules)
 
-pub overflow_add-i : goal.overflow_add-i
-overflow_add-i c = omega (arith, few_steps c.loop-i.invariant)
-
 pub loop-i-preserved : goal.loop-i-preserved
 loop-i-preserved c = search (one_step c.loop-i.invariant, rules)
 

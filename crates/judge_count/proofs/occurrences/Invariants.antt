@@ -1,9 +1,6 @@
 -- `judge_count::occurrences` meets its contract.
-use Rattle.judge_count.proofs.SumLaws.{CountsFrom}
+use Rattle.judge_count.proofs.SumLaws.{CountsTo}
 use Rattle.judge_count.proofs.occurrences.Given as goal
 
-abbrev pub invariant-loop-i : goal.invariant-loop-i
-invariant-loop-i l = CountsFrom l.words l.counts l.i
-
-abbrev pub decreases-loop-i : goal.decreases-loop-i
-decreases-loop-i l = l.i
+abbrev pub invariant-loop-word : goal.invariant-loop-word
+invariant-loop-word l = CountsTo l.words l.counts l.word-index

@@ -14,11 +14,8 @@ slice_bounds-content-end c = search (gathered_within, rules)
 pub slice_bounds-content-end-2 : goal.slice_bounds-content-end-2
 slice_bounds-content-end-2 c = sym (length-take-le _ _ (search (gathered_within, rules)))
 
-pub content-requires-clause-index : goal.content-requires-clause-index
-content-requires-clause-index c = c.requires.judging.rules
-
-pub content-requires-clause-words : goal.content-requires-clause-words
-content-requires-clause-words c = gathered_words c.requires.judging _ c.gather.ensures c.in-Number.is c.requires.several
+pub content-requires : goal.content-requires
+content-requires c = gathered_words c.requires.judging _ c.gather.ensures c.in-Some.is c.requires.several
 
 pub returns : goal.returns
 returns c = search (several_inside, rules)

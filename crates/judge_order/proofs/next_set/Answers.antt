@@ -4,17 +4,18 @@ use Rattle.judge_order.proofs.OrderLaws.{no_arc, other_arc, one_arc, all-arcs}
 use Rattle.judge_order.proofs.next_set.Goals as goal
 use Rattle.judge_order.proofs.next_set.Goals.{then-arc-state, else-arc-state}
 
-pub loop-i-init : goal.loop-i-init
-loop-i-init c = no_arc
+pub loop-word-init : goal.loop-word-init
+loop-word-init c = no_arc
 
-pub loop-i-preserved : goal.loop-i-preserved
-loop-i-preserved c = let here = c.loop-i-test.true in
-    let arc = c.arc_of-arc.ensures in
+pub loop-word-preserved : goal.loop-word-preserved
+loop-word-preserved c =
+    let here = c.loop-word-test.true in
+    let arc = c.from-arc.ensures in
     elim c.if-arc-state.branch [
       | then-arc-state w ↦
-          one_arc c.loop-i.invariant here arc w.if-arc-state.true (c.requires _ here) w.has.ensures (w.next-is ∙ w.with_if-next.ensures)
-      | else-arc-state w ↦ other_arc c.loop-i.invariant here arc w.if-arc-state.false w.next-is
+          one_arc c.loop-word.invariant here arc w.if-arc-state.true (c.requires _ here) w.has.ensures (w.next-is ∙ w.with_if-next.ensures)
+      | else-arc-state w ↦ other_arc c.loop-word.invariant here arc w.if-arc-state.false w.next-is
     ]
 
 pub returns : goal.returns
-returns c = all-arcs c.loop-i.invariant c.loop-i-test.false
+returns c = all-arcs c.loop-word.invariant c.loop-word-test.false

@@ -1,19 +1,18 @@
 -- `judge_order::read_all` meets its contract.
 use borrow.Author.Rules.{rules}
+use mathlib.Core.Path.{refl, ap}
+use Prim.Native.Nat.{ℕ, ◌+◌}
 use Rattle.judge_order.proofs.OrderLaws.{no_child, one_child, last_child, all-children}
 use Rattle.judge_order.proofs.read_all.Goals as goal
 
-pub loop-i-init : goal.loop-i-init
-loop-i-init c = no_child
-
-pub overflow_sub-words : goal.overflow_sub-words
-overflow_sub-words c = (c.requires.words.each _ c.loop-i-test.true).0
+pub loop-word-init : goal.loop-word-init
+loop-word-init c = (no_child, refl)
 
 pub returns-then-set-eq0 : goal.returns-then-set-eq0
-returns-then-set-eq0 c = search (last_child, rules)
+returns-then-set-eq0 c = rw c.loop-word.invariant.1 (search (last_child c.loop-word.invariant.0, rules))
 
-pub loop-i-preserved : goal.loop-i-preserved
-loop-i-preserved c = search (one_child, rules)
+pub loop-word-preserved : goal.loop-word-preserved
+loop-word-preserved c = (search (one_child c.loop-word.invariant.0, rules), ap (λ (n : ℕ). n + 1) c.loop-word.invariant.1)
 
 pub returns : goal.returns
-returns c = all-children c.loop-i.invariant c.loop-i-test.false
+returns c = rw c.loop-word.invariant.1 (all-children c.loop-word.invariant.0 c.loop-word-test.false)

@@ -1,7 +1,7 @@
 -- `judge_run::judge_nodes` meets its contract: by the run's outcome, two states at a node or the verdict.
 use native.Mathlib.Omega.{arith}
-use borrow.Author.Rules.{rules}
-use Rattle.model.specs.Answers.{said_judgement, said_refusal}
+use Rattle.std.proofs.lemmas.Result.{err_from_is_err_and}
+use Rattle.model.specs.Answers.{said_judgement}
 use Rattle.judge_run.proofs.RunLaws.{form-shaped, form-some, looks_fit, all_said, two_said}
 use Rattle.judge_run.proofs.judge_nodes.Goals as goal
 
@@ -11,19 +11,20 @@ run-requires-clause-tree c =
     (shaped, shaped.few)
 
 pub overflow_cast-looks : goal.overflow_cast-looks
-overflow_cast-looks c = search (looks_fit, rules)
+overflow_cast-looks c = looks_fit c.requires.index c.requires.tree _ _ c.run.ensures c.in_ok-looks.was
 
 pub verdict-requires-clause-nodes : goal.verdict-requires-clause-nodes
 verdict-requires-clause-nodes c = omega (arith, form-some c.requires.tree)
 
-pub returns-in-Two : goal.returns-in-Two
-unfolding said_judgement said_refusal
-returns-in-Two c =
-    let (answer, states) = two_said _ _ _ _ c.run.ensures c.in-Two.is in
-    record { answer = answer; states = states }
+pub returns-in_err-looks : goal.returns-in_err-looks
+unfolding said_judgement
+returns-in_err-looks c =
+    let p = err_from_is_err_and c.from_residual.result c.from_residual.ensures.1 in
+    let (answer, states) = two_said _ _ _ _ c.run.ensures c.in_err-looks.was in
+    rw (p.1, p.2) (record { answer = answer; states = states })
 
-pub returns-in-All : goal.returns-in-All
-unfolding said_judgement said_refusal
-returns-in-All c =
-    let (answer, states) = all_said _ _ _ _ c.run.ensures c.in-All.is c.verdict.ensures in
+pub returns : goal.returns
+unfolding said_judgement
+returns c =
+    let (answer, states) = all_said _ _ _ _ c.run.ensures c.in_ok-looks.was c.verdict.ensures in
     record { answer = answer; states = states }

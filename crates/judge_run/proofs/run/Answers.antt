@@ -10,23 +10,23 @@ use Rattle.judge_run.proofs.run.Goals as goal
 pub slice_bounds-content-end-2 : goal.slice_bounds-content-end-2
 slice_bounds-content-end-2 c = refl
 
-pub content-nothing-requires-clause-words : goal.content-nothing-requires-clause-words
-content-nothing-requires-clause-words c = no_words
+pub content-nothing-requires : goal.content-nothing-requires
+content-nothing-requires c = no_words
 
 pub loop-i-init : goal.loop-i-init
 loop-i-init c = (search (running_none, rules), search rules)
 
 pub node-found-requires : goal.node-found-requires
-node-found-requires c = running_judging c.loop-i.invariant.0 (search rules) (search rules) (nothing-found _ c.content-nothing.ensures)
+node-found-requires c = running_judging c.loop-i.invariant.0 (search rules) (nothing-found _ c.content-nothing.ensures)
     (omega (arith, c.requires.tree.1, c.loop-i.invariant.1))
 
-pub returns-then-word-eq-SEVERAL : goal.returns-then-word-eq-SEVERAL
-returns-then-word-eq-SEVERAL c = let inv = c.loop-i.invariant.0 in
-    (search (running_two inv, rules), c.clear.ensures ∙ ap (λ n. replicate n 0) inv.long)
+pub returns-in_default : goal.returns-in_default
+returns-in_default c = let inv = c.loop-i.invariant.0 in
+    (_, refl, search (running_two inv, rules), c.clear.ensures ∙ ap (λ n. replicate n 0) inv.long)
 
 pub loop-i-preserved : goal.loop-i-preserved
 loop-i-preserved c = let inv = c.loop-i.invariant in
-    (search (running_more inv.0, rules), search rules)
+    (search (running_more inv.0, rw c.new-book.ensures.0 at c.node-found.ensures, rules), search rules)
 
 pub returns : goal.returns
 returns c = search (running_all, rules)

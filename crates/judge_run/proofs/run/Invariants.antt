@@ -8,6 +8,3 @@ use Rattle.judge_run.proofs.run.Given as goal
 abbrev pub invariant-loop-i : goal.invariant-loop-i
 invariant-loop-i l =
     Running (rules_in l.sheet) l.tree (length l.initial.states) l.i l.states l.looks × (length l.words ≡ length l.initial.words)
-
-abbrev pub decreases-loop-i : goal.decreases-loop-i
-decreases-loop-i l = l.i
