@@ -7,13 +7,14 @@ use native.Mathlib.Omega.{arith}
 use lib.ListN.{length, get_or, drop}
 use lib.Seq.{drop_at}
 use borrow.Author.Tests as tests
-use Rattle.model.specs.declared.Answer.{Answer}
-use Rattle.model.specs.declared.Answer.TheVariants.{Count, Error}
+use Rattle.std.specs.Prelude.{Ok, Err}
+use Rattle.std.specs.Result.{MatchResult, IsErrAnd}
+use Rattle.std.proofs.lemmas.Result.{err_from_is_err_and}
 use Rattle.model.specs.declared.Refusal.{Refusal}
 use Rattle.model.specs.declared.Refusal.TheVariants as refusals
 use Rattle.model.specs.declared.Refusal.TheVariants.{LongText, ForbiddenByte, Syntax, UnknownName, OtherName, Depth, ManyNodes, NameList}
 use Rattle.model.specs.declared.Refusal.TheVariants.{Tree, TextWords, TagCounts, JointLimit, ShortBuffer, TwoStates, LongForm}
-use Rattle.model.specs.Answers.{Said, count, refusal, said, said_refusal, Checked, passes, refuses, ◌>>=◌, ◌>>◌, require, room_for}
+use Rattle.model.specs.Answers.{Answer, Said, count, refusal, said, said_refusal, Checked, passes, refuses, ◌>>=◌, ◌>>◌, require, room_for}
 use Rattle.model.specs.Answers.{answer_of, buffer_after}
 use Rattle.model.specs.Sheet.{Sheet, sheet_words, sheet_of}
 use Rattle.model.specs.Compose.{swapped, joint, within_limits}
@@ -23,7 +24,7 @@ use Rattle.model.proofs.SwapLaws.{swapped-words}
 use Rattle.model.proofs.Answered.{sheet-counted, sheet-refused}
 use Rattle.model.proofs.PassedLaws.{passes_in, coded, few_words, tags-word}
 use Rattle.sheet.proofs.Over.{refused-place}
-use Rattle.page.specs.Page.{Writes}
+use Rattle.page.specs.Page.{Fills}
 use Rattle.page.proofs.PageLaws.{counted, front}
 use Rattle.compose.specs.Joins.{lent, limited, Gives, Limits}
 
@@ -43,7 +44,7 @@ module _ (out : List ℕ) {c : Checked (List ℕ)} where
     unfolding room_for require ◌>>◌
     gives-short h = gives_refusal (e ∙ rw (tests.lt-leb (length ws) (length out) h))
 
-    pub gives-words : {y : List ℕ} {i : ℕ} → length ws ≤ 16384 → length ws ≤ length out → Writes out 0 ws y i → Gives out c (count i) y
+    pub gives-words : {y : List ℕ} {i : ℕ} → length ws ≤ 16384 → length ws ≤ length out → Fills out ws y i → Gives out c (count i) y
     unfolding room_for require ◌>>◌ answer_of buffer_after
     gives-words few h p =
         let f = tests.le-leb (length ws) (length out) h in
@@ -53,12 +54,12 @@ module _ (out : List ℕ) {c : Checked (List ℕ)} where
 -- ---- a sheet's check
 
 -- by its answer
-pub sheet-counts : (s : List ℕ) {r : Answer} {n : ℕ} → said r ≡ sheet_said s → r ≡ Count n → Passes s × (n ≡ length s)
+pub sheet-counts : (s : List ℕ) {r : Answer} {n : ℕ} → said r ≡ sheet_said s → r ≡ Ok n → Passes s × (n ≡ length s)
 sheet-counts s e c = let (l, (t, p)) = sheet-counted s e c in ((passes_in p).0, l)
 
 -- a sheet that passes has its index at the front of the buffer
 pub sheet-indexed : (s old : List ℕ) {index : List ℕ} {r : Answer} {n : ℕ} → said r ≡ sheet_said s → index ≡ index_after old s → r
-    ≡ Count n → Indexed s index
+    ≡ Ok n → Indexed s index
 unfolding index_after buffer_after ◌>>=◌
 sheet-indexed s old {index} e ei c =
     let ok = (sheet-counts s e c).0 in
@@ -88,11 +89,11 @@ module _ (sheet out : List ℕ) where
   unfolding swap_said swap_out
   swaps g = (g.says, g.leaves)
 
-  pub swap-refused : {r : Answer} {x : Refusal} → said r ≡ sheet_said sheet → r ≡ Error x → Swaps (said_refusal x) out
+  pub swap-refused : {r : Answer} {x : Refusal} → said r ≡ sheet_said sheet → r ≡ Err x → Swaps (said_refusal x) out
   swap-refused e c = let (i, p, f) = sheet-refused sheet e c in rw f (swaps (gives_refusal out (swap_refuses sheet (length out) p)))
 
   -- n is the number of words of the sheet, and of its swapped sheet
-  module _ {r : Answer} {n : ℕ} (e : said r ≡ sheet_said sheet) (c : r ≡ Count n) where
+  module _ {r : Answer} {n : ℕ} (e : said r ≡ sheet_said sheet) (c : r ≡ Ok n) where
     ok : Passes sheet
     ok = (sheet-counts sheet e c).0
 
@@ -105,7 +106,7 @@ module _ (sheet out : List ℕ) where
     pub swap-short : length out < n → Swaps (refusal 22 n) out
     swap-short h = rw size at (swaps (gives-short out (sheet_words (swapped (sheet_in sheet))) lends (rw size h)))
 
-    pub swap-written : {y : List ℕ} {i : ℕ} → n ≤ length out → Writes out 0 (sheet_words (swapped (sheet_in sheet))) y i → Swaps (count i) y
+    pub swap-written : {y : List ℕ} {i : ℕ} → n ≤ length out → Fills out (sheet_words (swapped (sheet_in sheet))) y i → Swaps (count i) y
     swap-written h w =
         swaps (gives-words out (sheet_words (swapped (sheet_in sheet))) lends
         (omega (arith, size, (sheet-counts sheet e c).1, (few_words ok).1)) (omega (arith, size)) w)
@@ -144,20 +145,20 @@ module _ (first second out : List ℕ) where
   unfolding join_said join_out
   joins g = (g.says, g.leaves)
 
-  pub first_refused : {r : Answer} {x : Refusal} → said r ≡ sheet_said first → r ≡ Error x → Joined (said_refusal x) out
+  pub first_refused : {r : Answer} {x : Refusal} → said r ≡ sheet_said first → r ≡ Err x → Joined (said_refusal x) out
   first_refused e c = let (i, p, f) = sheet-refused first e c in rw f (joins (gives_refusal out (join_first first second (length out) p)))
 
-  module _ {r : Answer} {n : ℕ} (e : said r ≡ sheet_said first) (c : r ≡ Count n) where
+  module _ {r : Answer} {n : ℕ} (e : said r ≡ sheet_said first) (c : r ≡ Ok n) where
     h : Passes first
     h = (sheet-counts first e c).0
 
-    pub second-refused : (z : Refusal) {q : Answer} {x : Refusal} → said q ≡ sheet_said second → q ≡ Error x
+    pub second-refused : (z : Refusal) {q : Answer} {x : Refusal} → said q ≡ sheet_said second → q ≡ Err x
         → ((i : ℕ) → said_refusal x ≡ refusal 9 i → said_refusal z ≡ refusal 9 (i + 20000)) → Joined (said_refusal z) out
     second-refused z f d k =
         let (i, r, g) = sheet-refused second f d in
         rw (k i g) (joins (gives_refusal out (join-second first second (length out) h.as_sheet r)))
 
-    module _ {q : Answer} {m : ℕ} (f : said q ≡ sheet_said second) (d : q ≡ Count m) {a b : ℕ} (ea : a ≡ get_or first 4 0)
+    module _ {q : Answer} {m : ℕ} (f : said q ≡ sheet_said second) (d : q ≡ Ok m) {a b : ℕ} (ea : a ≡ get_or first 4 0)
         (eb : b ≡ get_or second 4 0) where
       k : Passes second
       k = (sheet-counts second f d).0
@@ -200,6 +201,20 @@ unfolding said_refusal
 nine_place e f = let g : refusal 9 _ ≡ refusal 9 _ = sym (ap said_refusal f) ∙ e in cc
 
 -- and its place is at most the most words of a sheet
-pub second-place : (ws : List ℕ) {r : Answer} {x : Refusal} → said r ≡ sheet_said ws → r ≡ Error x → (i : ℕ)
+pub second-place : (ws : List ℕ) {r : Answer} {x : Refusal} → said r ≡ sheet_said ws → r ≡ Err x → (i : ℕ)
     × (said_refusal x ≡ refusal 9 i) × (i ≤ 16384)
 second-place ws e c = let (i, p, f) = sheet-refused ws e c in (i, f, refused-place ws p)
+
+-- x is a refusal of T's words and z the same of the call's
+abbrev pub Moved : Refusal → Refusal → Type 0
+Moved x z = (i : ℕ) → said_refusal x ≡ refusal 9 i → said_refusal z ≡ refusal 9 (i + 20000)
+
+-- r is the check's answer on T's words, and q the same with a refusal moved
+pub moved-back : (r : Answer) {q : Answer} → MatchResult r (λ n. q ≡ Ok n) (λ x. IsErrAnd q (Moved x)) → {z : Refusal} → q ≡ Err z
+    → (x : Refusal) × (r ≡ Err x) × Moved x z
+moved-back (Ok n) h e = let z : ◌≡◌ {A = ℕ} 0 1 = cc in absurd (omega arith)
+moved-back (Err x) {q} h e = let (y, f, m) = err_from_is_err_and q h in let same : y ≡ _ = cc in (x, refl, subst (Moved x) same m)
+
+pub passed-back : (r : Answer) {q : Answer} → MatchResult r (λ n. q ≡ Ok n) (λ x. IsErrAnd q (Moved x)) → {n : ℕ} → q ≡ Ok n → r ≡ Ok n
+passed-back (Ok m) h e = sym h ∙ e
+passed-back (Err x) {q} h e = let (y, f, m) = err_from_is_err_and q h in let z : ◌≡◌ {A = ℕ} 0 1 = cc in absurd (omega arith)

@@ -2,7 +2,7 @@
 -- say what it comes to for the words at the front of the buffer, for those past them, and where it is a refusal. The theorems of the
 -- model's Demand3 take `join … ≡ passes ws` or `swap … ≡ passes ws`, ws being the words that are judged next: `front_left` gives this.
 use lib.ListN.{length}
-use Rattle.model.specs.declared.Answer.{Answer}
+use Rattle.model.specs.Answers.{Answer}
 use Rattle.model.specs.Calls.{swap, swap_said, swap_out, join, join_said, join_out}
 use Rattle.model.specs.Demands.{Promised}
 use Rattle.compose.proofs.swap.Reads as of_swap

@@ -15,16 +15,15 @@ use Rattle.model.specs.Index.{sheet_in, rules_in, nth, key}
 use Rattle.model.proofs.Tests.{eqb_yes, eqb-false}
 use Rattle.model.proofs.ListLaws.{∈-each}
 use Rattle.model.proofs.Chains.{rules-next}
-use Rattle.model.proofs.PassedLaws.{states-word, rules-word}
 use Rattle.model.proofs.IndexLaws.{chain_first, chain_next, chain_few}
-use Rattle.join_pairs.specs.declared.Sizes.{Sizes}
-use Rattle.join_pairs.specs.Sides.{sizes_of}
-use Rattle.join_alike.specs.declared.Spot.{Spot}
 use Rattle.join_alike.specs.declared.RulePair.{RulePair}
 use Rattle.join_alike.specs.declared.Row.{Row}
-use Rattle.join_alike.specs.Spots.{SpotIn, rule_of}
-use Rattle.join_alike.specs.Alike.{sizes_in, joint_rules_in, Joinable, RowOf, row_in, Alike, pair_in}
-use Rattle.join_alike.proofs.SpotLaws.{spot-found}
+use Rattle.join_alike.specs.declared.Pairs.{Pairs}
+use Rattle.join_alike.specs.declared.Sheets.{Sheets}
+use Rattle.join_alike.specs.Spots.{rule_in}
+use Rattle.join_alike.specs.Joins.{sizes_in, HasKey}
+use Rattle.join_alike.specs.Alike.{rule_of, pair_sizes, pair_joint, row_sizes, row_joint, joint_left, PairNext, sheets_sizes, sheets_joint}
+use Rattle.join_alike.proofs.SpotLaws.{stands}
 
 -- ---- two rules
 
@@ -68,12 +67,11 @@ paired_rule (contents o u φ ψ s t) = refl
 
 -- ---- two spots
 
--- the spots x and y of two rules with one key
-pub alike_paired : {u v : List ℕ} {n : Sizes} {r : RulePair} → Alike u v n r → (z : Rule)
-    × JointOf (sizes_of n) (rule_of u r.s) (rule_of v r.t) z
-alike_paired {u} {v} {n} {r} h =
-    paired (sizes_of n) (sheet_in u).states (sheet_in v).states (rule_of u r.s) (rule_of v r.t) h.first.begins.ranges
-    h.second.begins.ranges h.one_key
+-- a pair of rules makes one joint rule
+pub alike_paired : (r : RulePair) → (z : Rule) × JointOf (pair_sizes r) (rule_of r.s) (rule_of r.t) z
+alike_paired r =
+    paired (pair_sizes r) (sheet_in r.s.sheet.words.now).states (sheet_in r.t.sheet.words.now).states (rule_of r.s) (rule_of r.t)
+    (stands r.s).begins.ranges (stands r.t).begins.ranges r.one_key
 
 nth-∈ : (xs : List Rule) (j : ℕ) → j < length xs → nth xs j ∈ xs
 nth-∈ [] j l = absurd (omega arith)
@@ -85,108 +83,48 @@ pub rules_none : (xs : List Rule) {n j : ℕ} → length xs ≡ n → n ≤ j �
 unfolding flat_map
 rules_none xs {j = j} e l f = ap (flat_map f) (drop_of_length-le xs {i = j} (omega arith))
 
--- ---- along the chain of T's rules with the key of S's rule x
+-- ---- along the chain of T's rules with the key of S's rule
 
--- the joint rules of x and T's rules from number j on
-abbrev pub row_from : List ℕ → List ℕ → Spot → ℕ → List Rule
-row_from u v x j = flat_map (pair_rule (sizes_in u v) (rule_of u x)) (drop j (rules_in v))
-
--- A walk along the chain is at T's rule j, if there is one: it has the key of S's rule.
-pub record InRow (u v index : List ℕ) (r : Row) (j : ℕ) : Type 0 where
-  pub row : RowOf u v index r
-  pub has_key : j < length (rules_in v) → key (nth (rules_in v) j) ≡ key (rule_of u r.rule)
-
-pub row_begun : {u v index : List ℕ} {r : Row} → RowOf u v index r → {j : ℕ} → j ≡ get_or index (key (rule_of u r.rule)) 0
-    → key (rule_of u r.rule) < 67 → InRow u v index r j × (row_in u v r.rule ≡ row_from u v r.rule j)
-row_begun {u} {v} {r = r} h e l =
-    let x = rule_of u r.rule in
-    let (all, there) = chain_first h.second (pair_rule (sizes_in u v) x) (keys_apart (sizes_in u v) x) l e in
-    (record { row = h; has_key = there }, all)
-
-module _ {u v index : List ℕ} {r : Row} {j : ℕ} (h : InRow u v index r j) where
+module _ (r : Row) where
   abbrev own : Rule
-  own = rule_of u r.rule
+  own = rule_of r.rule
 
-  pub row_done : r.others ≤ j → row_from u v r.rule j ≡ []
-  row_done l = rules_none (rules_in v) h.row.others l (pair_rule (sizes_in u v) own)
+  pub row_begun : {k w j : ℕ} → k ≡ key own → k < 67 → w ≡ get_or r.others.index.now k 0 → j ≡ w
+      → HasKey r.others.words.now j (key own)
+      × (row_joint r ≡ flat_map (pair_rule (row_sizes r) own) (drop j (rules_in r.others.words.now)))
+  row_begun {k} {w} {j} e l f i =
+      let at : j ≡ get_or r.others.index.now (key own) 0 = i ∙ f ∙ ap (λ (m : ℕ). get_or r.others.index.now m 0) e in
+      let (all, there) = chain_first r.others.indexed (pair_rule (row_sizes r) own) (keys_apart (row_sizes r) own) (omega (arith, e)) at in
+      (record { has_key = there }, all)
 
-  module _ (l : j < r.others) where
-    inside : j < length (rules_in v)
-    inside = omega (arith, h.row.others)
-
-    -- S's rule and the one that the index tells
-    pub row_alike : {y : Spot} → SpotIn index j y → Alike u v r.sizes (record { s = r.rule; t = y })
-    row_alike e = record {
-      first = h.row.rule;
-      second = spot-found h.row.second inside e;
-      one_key = rw e.rule (h.has_key inside);
-      sizes = h.row.sizes;
-      few = rw h.row.sizes h.row.few;
-    }
-
-    pub row_among : {y : Spot} → SpotIn index j y → {z : Rule} → z ∈ pair_in u v r.sizes (record { s = r.rule; t = y })
-        → z ∈ row_in u v r.rule
-    row_among {y} e k =
-        let here : y.rule < length (rules_in v) = omega (arith, inside, e.rule) in
-        ∈-each (pair_rule (sizes_in u v) own) (nth-∈ (rules_in v) y.rule here) (rw h.row.sizes at k)
-
-    pub row_next : {y : Spot} → SpotIn index j y → {i : ℕ} → i ≡ get_or index (67 + j) 0 / 2 ^ 16
-        → InRow u v index r i
-        × (row_from u v r.rule j ≡ pair_in u v r.sizes (record { s = r.rule; t = y }) ++ row_from u v r.rule i) × (j < i)
-    row_next here e =
-        let f = pair_rule (sizes_in u v) own in
-        let (next, there) = chain_next h.row.second f (keys_apart (sizes_in u v) own) inside (h.has_key inside) e in (
-          record { row = h.row; has_key = there },
-          rw (h.row.sizes, here.rule) next,
-          (chain_few h.row.second inside e).0,
-        )
+  -- the rule that the entry w of T's rule j tells of is next
+  pub row_next : {j w i : ℕ} → j < length (rules_in r.others.words.now) → HasKey r.others.words.now j (key own)
+      → w ≡ get_or r.others.index.now (67 + j) 0 → i ≡ w / 2 ^ 16
+      → HasKey r.others.words.now i (key own) × (flat_map (pair_rule (row_sizes r) own) (drop j (rules_in r.others.words.now))
+      ≡ pair_rule (row_sizes r) own (rule_in r.others.words.now j)
+      ++ flat_map (pair_rule (row_sizes r) own) (drop i (rules_in r.others.words.now))) × (j < i)
+  row_next {j} {w} {i} l h f e =
+      let at : i ≡ get_or r.others.index.now (67 + j) 0 / 2 ^ 16 = e ∙ ap (λ (m : ℕ). m / 2 ^ 16) f in
+      let (next, there) = chain_next r.others.indexed (pair_rule (row_sizes r) own) (keys_apart (row_sizes r) own) l (h.has_key l) at in
+      (record { has_key = there }, next, (chain_few r.others.indexed l at).0)
 
 -- ---- the rules of S, one at a time
 
--- the joint rules of S's rules from number k on
-abbrev pub rows_from : List ℕ → List ℕ → ℕ → List Rule
-rows_from u v k = joint_rules (sizes_in u v) (drop k (rules_in u)) (rules_in v)
+module _ (b : Sheets) where
+  -- the joint rules of S's rules from number k on
+  abbrev pub rows_from : ℕ → List Rule
+  rows_from k = joint_rules (sheets_sizes b) (drop k (rules_in b.s.words.now)) (rules_in b.t.words.now)
 
--- S has m rules and T has o, and n are the numbers of states
-pub record InRows (u i v j : List ℕ) (n : Sizes) (m o : ℕ) : Type 0 where
-  pub both : Joinable u i v j
-  pub sizes : sizes_of n ≡ sizes_in u v
-  pub number : length (rules_in u) ≡ m
-  pub others : length (rules_in v) ≡ o
-
-pub rows_begun : {u i v j : List ℕ} → Joinable u i v j → (n : Sizes) → n.s ≡ get_or u 1 0 → n.t ≡ get_or v 1 0 → {k m l o : ℕ}
-    → k ≡ get_or u 5 0 → m ≡ k → l ≡ get_or v 5 0 → o ≡ l → InRows u i v j n m o
-rows_begun h n es et ek em el eo =
-    let s = es ∙ states-word h.first.sheet in
-    let t = et ∙ states-word h.second.sheet in
-    record {
-      both = h;
-      sizes = λ i. record { of_S = s i; of_T = t i };
-      number = sym (em ∙ ek ∙ rules-word h.first.sheet);
-      others = sym (eo ∙ el ∙ rules-word h.second.sheet);
-    }
-
-module _ {u i v j : List ℕ} {n : Sizes} {m o k : ℕ} (h : InRows u i v j n m o) where
-  pub rows_done : m ≤ k → rows_from u v k ≡ []
+  pub rows_done : {m k : ℕ} → m ≡ length (rules_in b.s.words.now) → m ≤ k → rows_from k ≡ []
   unfolding joint_rules
-  rows_done l = rules_none (rules_in u) h.number l (λ r. flat_map (pair_rule (sizes_in u v) r) (rules_in v))
+  rows_done e l = rules_none (rules_in b.s.words.now) (sym e) l (λ r. flat_map (pair_rule (sheets_sizes b) r) (rules_in b.t.words.now))
 
-  module _ (l : k < m) {x : Spot} (e : SpotIn i k x) where
-    -- rule k that S's index tells
-    pub row_here : RowOf u v j (record { rule = x; sizes = n; others = o })
-    row_here = record {
-      first = h.both.first.sheet;
-      second = h.both.second;
-      few = h.both.few;
-      rule = spot-found h.both.first (omega (arith, h.number)) e;
-      sizes = h.sizes;
-      others = h.others;
-    }
-
-    pub rows_next : rows_from u v k ≡ row_in u v x ++ rows_from u v (k + 1)
-    unfolding joint_rules
-    rows_next = rw e.rule (rules-next (rules_in u) h.number l (λ r. flat_map (pair_rule (sizes_in u v) r) (rules_in v)))
-
-    pub rows_among : {z : Rule} → z ∈ row_in u v x → z ∈ joint_rules_in u v
-    unfolding joint_rules
-    rows_among m = ∈-each (λ r. flat_map (pair_rule (sizes_in u v) r) (rules_in v)) (nth-∈ (rules_in u) x.rule row_here.rule.number) m
+  -- the row of S's rule k makes the first of them
+  pub rows_next : {k : ℕ} (r : Row) → k < length (rules_in b.s.words.now) → r.others ≡ b.t → r.rule.sheet ≡ b.s → r.rule.rule ≡ k
+      → (rows_from k ≡ row_joint r ++ rows_from (k + 1)) × (row_sizes r ≡ sheets_sizes b)
+  unfolding joint_rules
+  rows_next {k} r l eo es ek = (
+    rw (es, eo, ek)
+        (rules-next (rules_in b.s.words.now) refl l (λ x. flat_map (pair_rule (sheets_sizes b) x) (rules_in b.t.words.now))),
+    rw (es, eo) refl,
+  )

@@ -1,3 +1,3 @@
-pub mod RuleParts
 pub mod SpotLaws
+pub mod RuleParts
 pub mod AlikeLaws

@@ -15,7 +15,9 @@ use Rattle.model.proofs.RuleWords.{rule-there, text_key, tag_key}
 use Rattle.parts.specs.Lengths.{order_length, key_by}
 use Rattle.parts.proofs.LengthLaws.{key_of_rule}
 use Rattle.join_alike.specs.declared.Spot.{Spot}
-use Rattle.join_alike.specs.Spots.{rule_of, SpotOf, parts_of}
+use Rattle.join_alike.specs.Spots.{parts_of}
+use Rattle.join_alike.specs.Alike.{rule_of}
+use Rattle.join_alike.proofs.SpotLaws.{Stands, stands}
 
 module _ {p a : ℕ} {s : List ℕ} where
   -- ---- the map
@@ -60,9 +62,15 @@ module _ {p a : ℕ} {s : List ℕ} where
 
 -- ---- the rule of a spot
 
-module _ {s : List ℕ} {x : Spot} (h : SpotOf s x) where
+module _ (x : Spot) where
+  abbrev s : List ℕ
+  s = x.sheet.words.now
+
   abbrev rule : Rule
-  rule = rule_of s x
+  rule = rule_of x
+
+  abbrev h : Stands x
+  h = stands x
 
   pub spot-there : x.at + 1 < length s
   spot-there = (rule-there h.begins).0
@@ -98,8 +106,3 @@ module _ {s : List ℕ} {x : Spot} (h : SpotOf s x) where
 
   pub key_here : {m n k : ℕ} → m ≡ get_or s x.at 0 → n ≡ get_or s (x.at + 1) 0 → k ≡ key_by m n → k ≡ key rule
   key_here e f i = i ∙ ap₂ key_by e f ∙ key_of_rule rule h.begins
-
--- the first of T's rules with the key of S's rule x, by that key k
-pub first-here : (s index : List ℕ) (x : Spot) {k w r : ℕ} → k ≡ key (rule_of s x) → k < 67 → w ≡ get_or index k 0 → r ≡ w
-    → (r ≡ get_or index (key (rule_of s x)) 0) × (key (rule_of s x) < 67)
-first-here s index x e l f i = (i ∙ f ∙ ap (λ (k : ℕ). get_or index k 0) e, omega arith)

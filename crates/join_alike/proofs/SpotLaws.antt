@@ -1,15 +1,17 @@
--- The spot of a rule, by the index of its sheet.
+-- Where the rule of a spot stands in its sheet's words.
 use mathlib.Core.Path.{◌≡◌, refl, ap}
 use mathlib.Core.List.{List}
 use Prim.Native.Nat.{ℕ, ◌+◌, ◌-◌, ◌%◌, ◌^◌, ◌<◌}
 use native.Mathlib.Omega.{arith}
 use lib.ListN.{length, get_or}
 use Rattle.model.specs.Sheet.{Rule, one, two, three, rule_words}
+use Rattle.model.specs.Spans.{RuleAt}
 use Rattle.model.specs.Index.{sheet_in, rules_in, nth, Indexed}
 use Rattle.model.proofs.RuleWords.{content-words}
 use Rattle.model.proofs.IndexLaws.{rule-here, rule-ends}
 use Rattle.join_alike.specs.declared.Spot.{Spot}
-use Rattle.join_alike.specs.Spots.{SpotIn, SpotOf}
+use Rattle.join_alike.specs.Spots.{SpotIn}
+use Rattle.join_alike.specs.Alike.{rule_of}
 
 some_words : (p : ℕ) (x : Rule) → 0 < length (rule_words p x)
 unfolding rule_words
@@ -17,17 +19,23 @@ some_words p (one k q) = omega arith
 some_words p (two g c q) = omega arith
 some_words p (three o φ q) = omega (arith, ap length (content-words p o φ q))
 
-pub spot-found : {s index : List ℕ} → Indexed s index → {k : ℕ} → k < length (rules_in s) → {x : Spot} → SpotIn index k x → SpotOf s x
-spot-found {s} h {k} l {x} e =
+-- the rule of a spot stands from its first word to its target
+pub record Stands (x : Spot) : Type 0 where
+  pub begins : RuleAt (sheet_in x.sheet.words.now).states x.sheet.words.now x.at (rule_of x)
+  pub ends : x.target + 1 ≡ x.at + length (rule_words (sheet_in x.sheet.words.now).states (rule_of x))
+
+pub stands : (x : Spot) → Stands x
+stands x =
+    let h = x.sheet.indexed in
+    let k = x.spot in
     record {
-      number = omega (arith, e.rule);
-      begins = rw (e.rule, e.at) (rule-here h l refl);
-      ends = rw e.rule (omega (arith, e.at, e.target, rule-ends h l refl refl, some_words (sheet_in s).states (nth (rules_in s) k)));
+      begins = rw k.begins (rule-here h k.number refl);
+      ends = omega (arith, k.begins, k.ends, rule-ends h k.number refl refl, some_words (sheet_in x.sheet.words.now).states (rule_of x));
     }
 
 -- the entry after ENTRIES + k, as the code reads it
-pub spot-made : (index : List ℕ) (k : ℕ) {v w a b t : ℕ} → v ≡ get_or index (67 + k) 0 → w ≡ get_or index (68 + k) 0
-    → a ≡ v % 2 ^ 16 → b ≡ w % 2 ^ 16 → t ≡ b - 1 → SpotIn index k (record { rule = k; at = a; target = t })
-spot-made index k ev ew ea eb et =
+pub spot-made : {s : List ℕ} (index : List ℕ) (k : ℕ) {v w a b t : ℕ} → k < length (rules_in s) → v ≡ get_or index (67 + k) 0 → w
+    ≡ get_or index (68 + k) 0 → a ≡ v % 2 ^ 16 → b ≡ w % 2 ^ 16 → t ≡ b - 1 → SpotIn s index k a t
+spot-made index k l ev ew ea eb et =
     let same : 68 + k ≡ 67 + (k + 1) = omega arith in
-    record { rule = refl; at = rw (ea, ev); target = rw (et, eb, ew, same) }
+    record { number = l; begins = rw (ea, ev) refl; ends = rw (et, eb, ew, same) refl }

@@ -1,61 +1,61 @@
--- The two sheets of a join, and their rules that have one key.
-use Rattle.std.specs.Prelude.{◌≡◌, ℕ, ◌≤◌, length}
-use mathlib.Core.List.{List, flat_map}
+-- Rules of the two sheets of a join, as the code has them.
+use Rattle.std.specs.Prelude.{◌≡◌, ◌≤◌, drop, Option}
+use Rattle.std.specs.Option.{MatchOption}
+use mathlib.Core.List.{List, [], ◌++◌, flat_map}
 use Rattle.model.specs.Lists.{◌∈◌}
 use Rattle.model.specs.Sheet.{Rule}
-use Rattle.model.specs.Compose as model
-use Rattle.model.specs.Compose.{sizes, of_pairs, pair_rule, joint_rules, positions_of}
-use Rattle.model.specs.Index.{sheet_in, rules_in, Passes, key, Indexed}
-use Rattle.join_pairs.specs.declared.Sizes.{Sizes}
-use Rattle.join_pairs.specs.Sides.{sizes_of, FewPairs}
+use Rattle.model.specs.Compose.{Sizes, pair_rule, positions_of}
+use Rattle.model.specs.Index.{rules_in}
 use Rattle.join_alike.specs.declared.Spot.{Spot}
 use Rattle.join_alike.specs.declared.RulePair.{RulePair}
 use Rattle.join_alike.specs.declared.Row.{Row}
-use Rattle.join_alike.specs.Spots.{rule_of, SpotOf}
+use Rattle.join_alike.specs.declared.Pairs.{Pairs}
+use Rattle.join_alike.specs.declared.Sheets.{Sheets}
+use Rattle.join_alike.specs.Spots.{rule_in}
+use Rattle.join_alike.specs.Joins.{sizes_in, row_rules, joint_rules_in}
 
--- ---- the sheets of the words u and v
-
-abbrev pub sizes_in : List ℕ → List ℕ → model.Sizes
-sizes_in u v = sizes (sheet_in u) (sheet_in v)
-
-abbrev pub pairs_in : List ℕ → List ℕ → ℕ
-pairs_in u v = of_pairs (sizes_in u v)
-
-abbrev pub joint_rules_in : List ℕ → List ℕ → List Rule
-joint_rules_in u v = joint_rules (sizes_in u v) (rules_in u) (rules_in v)
-
--- Both pass, their indexes are i and j, and they have at most 64 pairs of states.
-pub record Joinable (u i v j : List ℕ) : Type 0 where
-  pub first : Indexed u i
-  pub second : Indexed v j
-  pub few : FewPairs (sizes_in u v)
-
--- The same, where the rules of T meet one rule of S.
-pub record RowOf (u v j : List ℕ) (r : Row) : Type 0 where
-  pub first : Passes u
-  pub second : Indexed v j
-  pub few : FewPairs (sizes_in u v)
-  pub rule : SpotOf u r.rule
-  pub sizes : sizes_of r.sizes ≡ sizes_in u v
-  pub others : length (rules_in v) ≡ r.others
-
--- the joint rules of the rule x of S
-abbrev pub row_in : List ℕ → List ℕ → Spot → List Rule
-row_in u v x = flat_map (pair_rule (sizes_in u v) (rule_of u x)) (rules_in v)
+-- the rule of a spot
+abbrev pub rule_of : Spot → Rule
+rule_of x = rule_in x.sheet.words.now x.rule
 
 -- ---- two rules
 
--- The two have one key; n are the numbers of states.
-pub record Alike (u v : List ℕ) (n : Sizes) (r : RulePair) : Type 0 where
-  pub first : SpotOf u r.s
-  pub second : SpotOf v r.t
-  pub one_key : key (rule_of v r.t) ≡ key (rule_of u r.s)
-  pub sizes : sizes_of n ≡ sizes_in u v
-  pub few : FewPairs (sizes_of n)
+abbrev pub pair_sizes : RulePair → Sizes
+pair_sizes r = sizes_in r.s.sheet.words.now r.t.sheet.words.now
 
 -- their joint rule, the only one
-abbrev pub pair_in : List ℕ → List ℕ → Sizes → RulePair → List Rule
-pair_in u v n r = pair_rule (sizes_of n) (rule_of u r.s) (rule_of v r.t)
+abbrev pub pair_joint : RulePair → List Rule
+pair_joint r = pair_rule (pair_sizes r) (rule_of r.s) (rule_of r.t)
+
+-- ---- a rule of S and the rules of T
+
+abbrev pub row_sizes : Row → Sizes
+row_sizes r = sizes_in r.rule.sheet.words.now r.others.words.now
+
+abbrev pub row_joint : Row → List Rule
+row_joint r = row_rules r.rule.sheet.words.now r.others.words.now (rule_of r.rule)
+
+-- the joint rules of a row's pairs that are left
+abbrev pub joint_left : Pairs → List Rule
+joint_left p = flat_map (pair_rule (row_sizes p.row) (rule_of p.row.rule)) (drop p.next (rules_in p.row.others.words.now))
+
+-- the next pair, if there is one: its joint rule, and those of the pairs after it
+pub record PairNext (p : Pairs) (x : RulePair) (q : Pairs) : Type 0 where
+  pub joint : joint_left p ≡ pair_joint x ++ joint_left q
+  pub row : q.row ≡ p.row
+  pub rule : x.s ≡ p.row.rule
+  pub other : x.t.sheet ≡ p.row.others
+
+abbrev pub NextPair : Pairs → Option RulePair → Pairs → Type 0
+NextPair p r q = MatchOption r (joint_left p ≡ []) (λ x. PairNext p x q)
+
+-- ---- two sheets
+
+abbrev pub sheets_sizes : Sheets → Sizes
+sheets_sizes s = sizes_in s.s.words.now s.t.words.now
+
+abbrev pub sheets_joint : Sheets → List Rule
+sheets_joint s = joint_rules_in s.s.words.now s.t.words.now
 
 -- no joint rule has over 64 positions
 abbrev pub FewPositions : List Rule → Type 0

@@ -1,26 +1,19 @@
--- Where a rule of a sheet is in the sheet's words.
+-- Where a rule of a sheet is in the sheet's words, and the parts of a rule.
 use Rattle.std.specs.Prelude.{◌≡◌, List, ℕ, ◌+◌, ◌-◌, ◌%◌, ◌^◌, ◌<◌, length, get_or}
 use Rattle.std.proofs.Math.Option.{none}
-use Rattle.model.specs.Sheet.{Rule, one, two, three, rule_words}
-use Rattle.model.specs.Spans.{RuleAt, Content}
-use Rattle.model.specs.Index.{sheet_in, rules_in, nth}
-use Rattle.join_alike.specs.declared.Spot.{Spot}
+use Rattle.model.specs.Sheet.{Rule, one, two, three}
+use Rattle.model.specs.Spans.{Content}
+use Rattle.model.specs.Index.{rules_in, nth}
 
--- the rule of a spot's number
-abbrev pub rule_of : List ℕ → Spot → Rule
-rule_of s x = nth (rules_in s) x.rule
+-- rule k of the sheet with the words s
+abbrev pub rule_in : List ℕ → ℕ → Rule
+rule_in s k = nth (rules_in s) k
 
--- x is what an index tells of rule k: where it begins, and where the next begins, before which its target stands
-pub record SpotIn (index : List ℕ) (k : ℕ) (x : Spot) : Type 0 where
-  pub rule : x.rule ≡ k
-  pub at : x.at ≡ get_or index (67 + k) 0 % 2 ^ 16
-  pub target : x.target ≡ get_or index (67 + (k + 1)) 0 % 2 ^ 16 - 1
-
--- x is the spot of a rule of the sheet with the words s
-pub record SpotOf (s : List ℕ) (x : Spot) : Type 0 where
-  pub number : x.rule < length (rules_in s)
-  pub begins : RuleAt (sheet_in s).states s x.at (rule_of s x)
-  pub ends : x.target + 1 ≡ x.at + length (rule_words (sheet_in s).states (rule_of s x))
+-- There is a rule k, and the index tells that it begins at a, and where the next begins, before which its target stands at t.
+pub record SpotIn (s index : List ℕ) (k a t : ℕ) : Type 0 where
+  pub number : k < length (rules_in s)
+  pub begins : a ≡ get_or index (67 + k) 0 % 2 ^ 16
+  pub ends : t ≡ get_or index (67 + (k + 1)) 0 % 2 ^ 16 - 1
 
 -- the parts of a rule: of a text or of a tag, a target alone
 abbrev pub parts_of : Rule → Content

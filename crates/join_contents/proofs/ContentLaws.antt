@@ -1,5 +1,5 @@
 -- The words of the joint rule of two content rules with one key, and the pair of the targets of two rules.
-use mathlib.Core.Path.{◌≡◌, refl, sym, ap, ap₂, ◌∙◌}
+use mathlib.Core.Path.{◌≡◌, refl, sym, ap, ap₂, subst, ◌∙◌}
 use mathlib.Core.Logic.{◌≢◌}
 use mathlib.Core.Bool.{Bool, true, false, ◌||◌}
 use mathlib.Core.List.Memᴰ
@@ -15,18 +15,22 @@ use Rattle.model.specs.Compose.{pair, of_pairs, pair_order, joint_order, joint_c
 use Rattle.model.specs.Index.{sheet_in}
 use Rattle.model.proofs.RuleWords.{content-words, is-there, not_there, text_key, tag_key}
 use Rattle.page.specs.Page.{Writes}
+use Rattle.page.specs.declared.Page.{Page}
 use Rattle.page.proofs.PageLaws.{nothing}
 use Rattle.join_pairs.specs.declared.Side.TheVariants as sides
+use Rattle.join_pairs.specs.declared.Both.{Both}
+use Rattle.join_pairs.specs.declared.Part.{Part}
 use Rattle.join_pairs.specs.declared.Sizes.{Sizes}
-use Rattle.join_pairs.specs.Sides.{sizes_of, FewPairs}
+use Rattle.join_pairs.specs.Sides.{sizes_of}
 use Rattle.join_pairs.proofs.NumberLaws.{few-S, few-T}
 use Rattle.join_order.specs.Orders.{SomeOrder, PairableOrders, LiftsOrder, PairsOrders}
 use Rattle.join_count.specs.Counts.{SomeCount, LiftsCount, JoinsCounts}
 use Rattle.join_alike.specs.declared.Spot.{Spot}
 use Rattle.join_alike.specs.declared.RulePair.{RulePair}
-use Rattle.join_alike.specs.Spots.{SpotOf, parts_of}
-use Rattle.join_alike.specs.Alike.{Alike, pair_in, FewPositions}
-use Rattle.join_alike.proofs.RuleParts.{spot-there, order-here, count-here, target-here}
+use Rattle.join_alike.specs.Spots.{parts_of}
+use Rattle.join_alike.specs.Alike.{rule_of, pair_sizes, pair_joint, FewPositions}
+use Rattle.join_alike.proofs.SpotLaws.{stands}
+use Rattle.join_alike.proofs.RuleParts.{order-here, count-here}
 use Rattle.join_alike.proofs.AlikeLaws.{JointOf, texts, tags, contents, alike_paired, paired_rule}
 use Rattle.join_contents.specs.Parts.{parts_in, target_in, map_in, order_in, count_in, pair_words}
 
@@ -76,19 +80,20 @@ few-both (contents o u φ ψ s t) h e f = rw (e, f) at h
 
 -- ---- a part that a rule of a sheet of p states has
 
-module _ {s : List ℕ} {x : Spot} (h : SpotOf s x) {p : ℕ} (is : (sheet_in s).states ≡ p) where
-  order-at : {o : Order} → (parts_in s x).order ≡ some o → OrderAt p s (x.at + 1) o
-  order-at e = rw is at (order-here h e)
+module _ (x : Spot) {p : ℕ} (is : (sheet_in x.sheet.words.now).states ≡ p) (y : Part) (same : y.words ≡ x.sheet.words) where
+  module _ (at : y.at ≡ x.at + 1) where
+    order-at : {o : Order} → (parts_in x).order ≡ some o → OrderAt p y.words.now y.at o
+    order-at e = rw (same, at, ← is) (order-here x e)
 
-  pub order-there : {a : Bool} → a ≡ there_is (parts_in s x).order → a ≡ true → SomeOrder p s (x.at + 1)
-  order-there e t = let (o, f) = is-there (parts_in s x).order (sym e ∙ t) in (o, order-at f)
+    pub order-there : {a : Bool} → a ≡ there_is (parts_in x).order → a ≡ true → SomeOrder p y
+    order-there e t = let (o, f) = is-there (parts_in x).order (sym e ∙ t) in (o, order-at f)
 
-  module _ {c : ℕ} (at : c ≡ x.at + 1 + length (order_part (parts_in s x).order)) where
-    count_at : {ss : List Step} → (parts_in s x).count ≡ some ss → CountAt p s c ss
-    count_at e = rw is at (count-here h at e)
+  module _ (at : y.at ≡ x.at + 1 + length (order_part (parts_in x).order)) where
+    count_at : {ss : List Step} → (parts_in x).count ≡ some ss → CountAt p y.words.now y.at ss
+    count_at e = rw (same, ← is) (count-here x at e)
 
-    pub count-there : {a : Bool} → a ≡ there_is (parts_in s x).count → a ≡ true → SomeCount p s c
-    count-there e t = let (ss, f) = is-there (parts_in s x).count (sym e ∙ t) in (ss, count_at f)
+    pub count-there : {a : Bool} → a ≡ there_is (parts_in x).count → a ≡ true → SomeCount p y
+    count-there e t = let (ss, f) = is-there (parts_in x).count (sym e ∙ t) in (ss, count_at f)
 
 -- ---- a part that each of two rules has or hasn't
 
@@ -118,112 +123,107 @@ module _ {A : Type 0} {o u : Option A} {At_S At_T : A → Type 0} {a b : Bool} (
   neither : a ≡ false → b ≡ false → P none none → P o u
   neither s t k = rw (not_there o (sym h.told_S ∙ s), not_there u (sym h.told_T ∙ t)) k
 
--- ---- two spots
+-- ---- two rules, n being the numbers of states
 
-module _ {u v : List ℕ} {n : Sizes} {r : RulePair} (h : Alike u v n r) where
-  pub states-S : (sheet_in u).states ≡ n.s
-  states-S = sym (ap (λ (k : model.Sizes). k.of_S) h.sizes)
+module _ (r : RulePair) (n : Sizes) (e : sizes_of n ≡ pair_sizes r) where
+  pub states-S : (sheet_in r.s.sheet.words.now).states ≡ n.s
+  states-S = sym (ap (λ (k : model.Sizes). k.of_S) e)
 
-  pub states-T : (sheet_in v).states ≡ n.t
-  states-T = sym (ap (λ (k : model.Sizes). k.of_T) h.sizes)
-
-  pub few_states : (n.s ≤ 64) × (n.t ≤ 64)
-  few_states = (few-S h.few, few-T h.few)
+  pub states-T : (sheet_in r.t.sheet.words.now).states ≡ n.t
+  states-T = sym (ap (λ (k : model.Sizes). k.of_T) e)
 
   -- the targets make a pair
-  module _ {a b : ℕ} (ea : a ≡ get_or u r.s.target 0) (eb : b ≡ get_or v r.t.target 0) where
-    pub targets_small : (n.t ≤ 64) × (a ≤ 255) × (b ≤ 255)
-    targets_small = (
-      few_states.1,
-      omega (arith, few_states, states-S, (target-here h.first ea).1),
-      omega (arith, few_states, states-T, (target-here h.second eb).1),
-    )
+  module _ {a b : ℕ} (ea : a ≡ (parts_in r.s).target) (eb : b ≡ (parts_in r.t).target) where
+    pub targets_small : a < (sheet_in r.s.sheet.words.now).states → b < (sheet_in r.t.sheet.words.now).states → (a ≤ 255) × (b ≤ 255)
+    targets_small la lb = (omega (arith, few-S n.few, states-S), omega (arith, few-T n.few, states-T))
 
-    pub targets_pair : {q : ℕ} → q ≡ pair n.t a b → q ≡ target_in u v n r
-    targets_pair eq = eq ∙ ap₂ (pair n.t) (target-here h.first ea).0 (target-here h.second eb).0
-
-  pub content-words_in : (get_or u r.s.at 0 ≢ 33) × (get_or u r.s.at 0 ≢ 38) → {m q : ℕ} → m ≡ map_in u v r
-      → q ≡ target_in u v n r
-      → (m ∷ []) ++ (order_in u v n r ++ (count_in u v n r ++ (q ∷ []))) ≡ pair_words u v n r
-  content-words_in d em eq = let (z, w) = alike_paired h in rw (em, eq) (content-rule w h.first.begins d ∙ one_rule w)
+    pub targets_pair : {q : ℕ} → q ≡ pair n.t a b → q ≡ target_in r
+    targets_pair eq = rw (eq, ea, eb) (ap (λ (k : model.Sizes). pair k.of_T (parts_in r.s).target (parts_in r.t).target) e)
 
   -- ---- order parts
 
-  pub places_fit : (r.s.at + 1 < length u) × (r.t.at + 1 < length v)
-  places_fit = (spot-there h.first, spot-there h.second)
+  module _ (x y : Part) (ex : x.words ≡ r.s.sheet.words) (ey : y.words ≡ r.t.sheet.words) where
+    module _ (ax : x.at ≡ r.s.at + 1) (ay : y.at ≡ r.t.at + 1) {a b : Bool} (ea : a ≡ there_is (parts_in r.s).order)
+        (eb : b ≡ there_is (parts_in r.t).order) where
+      orders : Parts (parts_in r.s).order (parts_in r.t).order (OrderAt n.s x.words.now x.at) (OrderAt n.t y.words.now y.at) a b
+      orders = record {
+        here-S = order-at r.s states-S x ex ax;
+        here-T = order-at r.t states-T y ey ay;
+        told_S = ea;
+        told_T = eb;
+      }
 
-  module _ {a b : Bool} (ea : a ≡ there_is (parts_in u r.s).order) (eb : b ≡ there_is (parts_in v r.t).order) where
-    orders : Parts (parts_in u r.s).order (parts_in v r.t).order (OrderAt n.s u (r.s.at + 1))
-        (OrderAt n.t v (r.t.at + 1)) a b
-    orders = record { here-S = order-at h.first states-S; here-T = order-at h.second states-T; told_S = ea; told_T = eb }
+      pub orders_pairable : FewPositions (pair_joint r) → a ≡ true → b ≡ true → PairableOrders n (record { s = x; t = y })
+      orders_pairable few s t =
+          let (o, f) = is-there (parts_in r.s).order (sym ea ∙ s) in
+          let (q, g) = is-there (parts_in r.t).order (sym eb ∙ t) in
+          let (z, w) = alike_paired r in
+          let positions = few-both w (few z (rw (paired_rule w) (Memᴰ.head refl))) f g in
+          record { of_S = o; of_T = q; at_S = orders.here-S f; at_T = orders.here-T g; few = positions }
 
-    pub orders_pairable : FewPositions (pair_in u v n r) → a ≡ true → b ≡ true
-        → FewPairs (sizes_of n) × PairableOrders n u v (record { s = r.s.at + 1; t = r.t.at + 1 })
-    orders_pairable few s t =
-        let (o, e) = is-there (parts_in u r.s).order (sym ea ∙ s) in
-        let (q, f) = is-there (parts_in v r.t).order (sym eb ∙ t) in
-        let (z, w) = alike_paired h in
-        let positions = few-both w (few z (rw (paired_rule w) (Memᴰ.head refl))) e f in
-        (h.few, record { of_S = o; of_T = q; at_S = orders.here-S e; at_T = orders.here-T f; few = positions })
+      -- what is written
+      abbrev Orders : Page → Page → Option Order → Option Order → Type 0
+      Orders p q o u = Writes p (order_part (joint_order (sizes_of n) o u)) q
 
-    -- what is written
-    abbrev Orders : (l : List ℕ) (i : ℕ) (l' : List ℕ) (i' : ℕ) → Option Order → Option Order → Type 0
-    Orders l i l' i' o q = Writes l i (order_part (joint_order (sizes_of n) o q)) l' i'
+      as-order : {p q : Page} → Orders p q (parts_in r.s).order (parts_in r.t).order → Writes p (order_in r) q
+      as-order {p} {q} =
+          subst (λ (m : model.Sizes). Writes p (order_part (joint_order m (parts_in r.s).order (parts_in r.t).order)) q) e
 
-    module _ {l l' : List ℕ} {i i' : ℕ} where
-      pub orders_paired : a ≡ true → b ≡ true → PairsOrders n u v (record { s = r.s.at + 1; t = r.t.at + 1 })
-          (λ ws. Writes l i ws l' i') → Writes l i (order_in u v n r) l' i'
+      module _ {p q : Page} where
+        pub orders_paired : a ≡ true → b ≡ true → PairsOrders n (record { s = x; t = y }) (λ ws. Writes p ws q) → Writes p (order_in r) q
+        unfolding joint_order
+        orders_paired s t k = as-order (both orders (Orders p q) s t k)
+
+        pub order-S_lifted : a ≡ true → b ≡ false → LiftsOrder sides.S n x (λ ws. Writes p ws q) → Writes p (order_in r) q
+        unfolding joint_order
+        order-S_lifted s t k = as-order (first_alone orders (Orders p q) s t k)
+
+        pub order-T_lifted : a ≡ false → b ≡ true → LiftsOrder sides.T n y (λ ws. Writes p ws q) → Writes p (order_in r) q
+        unfolding joint_order
+        order-T_lifted s t k = as-order (second_alone orders (Orders p q) s t k)
+
+      pub no_orders : (p : Page) → a ≡ false → b ≡ false → Writes p (order_in r) p
       unfolding joint_order
-      orders_paired = both orders (Orders l i l' i')
+      no_orders p s t = as-order (neither orders (Orders p p) s t (nothing p))
 
-      pub order-S_lifted : a ≡ true → b ≡ false → LiftsOrder sides.S n u (r.s.at + 1) (λ ws. Writes l i ws l' i')
-          → Writes l i (order_in u v n r) l' i'
-      unfolding joint_order
-      order-S_lifted = first_alone orders (Orders l i l' i')
+    -- ---- count parts
 
-      pub order-T_lifted : a ≡ false → b ≡ true → LiftsOrder sides.T n v (r.t.at + 1) (λ ws. Writes l i ws l' i')
-          → Writes l i (order_in u v n r) l' i'
-      unfolding joint_order
-      order-T_lifted = second_alone orders (Orders l i l' i')
+    module _ (ax : x.at ≡ r.s.at + 1 + length (order_part (parts_in r.s).order))
+        (ay : y.at ≡ r.t.at + 1 + length (order_part (parts_in r.t).order)) {a b : Bool} (ea : a ≡ there_is (parts_in r.s).count)
+        (eb : b ≡ there_is (parts_in r.t).count) where
+      counts : Parts (parts_in r.s).count (parts_in r.t).count (CountAt n.s x.words.now x.at) (CountAt n.t y.words.now y.at) a b
+      counts = record {
+        here-S = count_at r.s states-S x ex ax;
+        here-T = count_at r.t states-T y ey ay;
+        told_S = ea;
+        told_T = eb;
+      }
 
-    pub no_orders : {l : List ℕ} {i : ℕ} → a ≡ false → b ≡ false → Writes l i (order_in u v n r) l i
-    unfolding joint_order
-    no_orders {l} {i} s t = neither orders (Orders l i l i) s t (nothing l i)
+      abbrev Counts : Page → Page → Option (List Step) → Option (List Step) → Type 0
+      Counts p q φ ψ = Writes p (count_part (of_pairs (sizes_of n)) (joint_count (sizes_of n) φ ψ)) q
 
-  -- ---- count parts, at c and d
+      as-count : {p q : Page} → Counts p q (parts_in r.s).count (parts_in r.t).count → Writes p (count_in r) q
+      as-count {p} {q} =
+          subst (λ (m : model.Sizes). Writes p (count_part (of_pairs m) (joint_count m (parts_in r.s).count (parts_in r.t).count)) q) e
 
-  module _ {c d : ℕ} (ec : c ≡ r.s.at + 1 + length (order_part (parts_in u r.s).order))
-      (ed : d ≡ r.t.at + 1 + length (order_part (parts_in v r.t).order)) {a b : Bool}
-      (ea : a ≡ there_is (parts_in u r.s).count) (eb : b ≡ there_is (parts_in v r.t).count) where
-    counts : Parts (parts_in u r.s).count (parts_in v r.t).count (CountAt n.s u c) (CountAt n.t v d) a b
-    counts =
-        record { here-S = count_at h.first states-S ec; here-T = count_at h.second states-T ed; told_S = ea; told_T = eb }
+      module _ {p q : Page} where
+        pub counts-joined : a ≡ true → b ≡ true → JoinsCounts n (record { s = x; t = y }) (λ ws. Writes p ws q) → Writes p (count_in r) q
+        unfolding joint_count
+        counts-joined s t k = as-count (both counts (Counts p q) s t k)
 
-    abbrev Counts : (l : List ℕ) (i : ℕ) (l' : List ℕ) (i' : ℕ) → Option (List Step) → Option (List Step) → Type 0
-    Counts l i l' i' φ ψ = Writes l i (count_part (of_pairs (sizes_of n)) (joint_count (sizes_of n) φ ψ)) l' i'
+        pub count-S_lifted : a ≡ true → b ≡ false → LiftsCount sides.S n x (λ ws. Writes p ws q) → Writes p (count_in r) q
+        unfolding joint_count
+        count-S_lifted s t k = as-count (first_alone counts (Counts p q) s t k)
 
-    module _ {l l' : List ℕ} {i i' : ℕ} where
-      pub counts-joined : a ≡ true → b ≡ true → JoinsCounts n u v (record { s = c; t = d }) (λ ws. Writes l i ws l' i')
-          → Writes l i (count_in u v n r) l' i'
+        pub count-T_lifted : a ≡ false → b ≡ true → LiftsCount sides.T n y (λ ws. Writes p ws q) → Writes p (count_in r) q
+        unfolding joint_count
+        count-T_lifted s t k = as-count (second_alone counts (Counts p q) s t k)
+
+      pub no_counts : (p : Page) → a ≡ false → b ≡ false → Writes p (count_in r) p
       unfolding joint_count
-      counts-joined = both counts (Counts l i l' i')
+      no_counts p s t = as-count (neither counts (Counts p p) s t (nothing p))
 
-      pub count-S_lifted : a ≡ true → b ≡ false → LiftsCount sides.S n u c (λ ws. Writes l i ws l' i')
-          → Writes l i (count_in u v n r) l' i'
-      unfolding joint_count
-      count-S_lifted = first_alone counts (Counts l i l' i')
-
-      pub count-T_lifted : a ≡ false → b ≡ true → LiftsCount sides.T n v d (λ ws. Writes l i ws l' i')
-          → Writes l i (count_in u v n r) l' i'
-      unfolding joint_count
-      count-T_lifted = second_alone counts (Counts l i l' i')
-
-    pub no_counts : {l : List ℕ} {i : ℕ} → a ≡ false → b ≡ false → Writes l i (count_in u v n r) l i
-    unfolding joint_count
-    no_counts {l} {i} s t = neither counts (Counts l i l i) s t (nothing l i)
-
--- the flags of the two rules make the map of the joint one
-pub map-made : (u v : List ℕ) (r : RulePair) {a b c d : Bool} {m : ℕ} → a ≡ there_is (parts_in u r.s).order
-    → b ≡ there_is (parts_in v r.t).order → c ≡ there_is (parts_in u r.s).count → d ≡ there_is (parts_in v r.t).count
-    → m ≡ map_of (a || b) (c || d) → m ≡ map_in u v r
-map-made u v r ea eb ec ed e = e ∙ rw (ea, eb, ec, ed)
+pub content-words_in : (r : RulePair)
+    → (get_or r.s.sheet.words.now r.s.at 0 ≢ 33) × (get_or r.s.sheet.words.now r.s.at 0 ≢ 38) → {m q : ℕ} → m ≡ map_in r → q ≡ target_in r
+    → (m ∷ []) ++ (order_in r ++ (count_in r ++ (q ∷ []))) ≡ pair_words r
+content-words_in r d em eq = let (z, w) = alike_paired r in rw (em, eq) (content-rule w (stands r.s).begins d ∙ one_rule w)

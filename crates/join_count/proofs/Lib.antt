@@ -1,2 +1,2 @@
-pub mod StepWords
 pub mod CountWords
+pub mod StepWords

@@ -1,132 +1,168 @@
 -- The words of a step, by its kind.
-use mathlib.Core.Path.{◌≡◌, refl, sym, ◌∙◌}
-use mathlib.Core.List.{List, [], ◌∷◌, ◌++◌}
-use Prim.Native.Nat.{ℕ, ◌+◌, ◌-◌, ◌≤◌, ◌<◌}
+use mathlib.Core.Path.{◌≡◌, refl, sym, ap, ◌∙◌, subst}
+use mathlib.Core.List.{List, [], ◌∷◌, ◌++◌, map}
+use Prim.Native.Nat.{ℕ, zero, suc, ◌+◌, ◌-◌, ◌*◌, ◌≤◌, ◌<◌}
 use native.Mathlib.Omega.{arith}
-use lib.ListN.{length, get_or, length-append}
-use lib.Seq.{slice}
+use lib.ListN.{length, get_or, take, drop, length-append}
+use lib.Seq.{take_at, drop_at, take_all}
 use borrow.Author.Tests as tests
-use Rattle.model.specs.Sheet.{Coefficient, Step, at_most, remainder, not_step, and_step, or_step}
-use Rattle.model.specs.Sheet.{signed_word, set_words, sum_words, step_words, SumInRange}
+use Rattle.std.specs.Borrow.{Bor}
+use Rattle.model.specs.Sheet.{W, Coefficient, Step, at_most, remainder, not_step, and_step, or_step}
+use Rattle.model.specs.Sheet.{signed_word, set_words, sum_words, step_words, SumInRange, StepInRange}
 use Rattle.model.specs.Compose.{Side, Sizes, of_pairs, lift_sum, lift_step}
 use Rattle.model.specs.Spans.{WordsAt, SumAt, StepAt}
-use Rattle.model.proofs.Spans.{word-here, word_next, span_left, span_right}
-use Rattle.model.proofs.PartLaws.{words-from, words-within}
+use Rattle.model.proofs.Spans.{word-here, word_next, span_left}
+use Rattle.model.proofs.PartLaws.{words-within, words_part, PartsLeft, next_part}
 use Rattle.parts.specs.Lengths.{sum_length, step_length}
 use Rattle.join_pairs.specs.Sides.{side_of}
 use Rattle.join_pairs.proofs.NumberLaws.{few_side}
+use Rattle.join_sum.specs.Sums.{SumOf}
+use Rattle.join_sum.proofs.SumWords.{times_words, sum-long}
 use Rattle.join_count.specs.declared.Lift.{Lift}
-use Rattle.join_count.specs.Counts.{SmallLift, states_of, SomeStep}
-use Rattle.join_sum.proofs.SumWords.{sum-long}
+use Rattle.join_count.specs.Steps.{states_of, StepOf, SomeStep}
 
--- a step that ends before e and begins with a sum: as many words follow as its kind says
-pub record SumStep (p : ℕ) (s : List ℕ) (a e : ℕ) (x : Step) : Type 0 where
+-- ---- a step over p states by its words
+
+-- one that begins with a sum: as many words follow the sum as the number of its kind
+pub record SumStep (p : ℕ) (ws : List ℕ) (x : Step) : Type 0 where
   pub coefficients : List Coefficient
   pub tail : List ℕ
-  pub sum : SumAt p s (a + 1) coefficients
-  pub some : 2 ≤ length (sum_words p coefficients)
-  pub ends : e ≡ a + 1 + length (sum_words p coefficients) + get_or s a 0
-  pub rest : {b : ℕ} → b ≡ a + 1 + length (sum_words p coefficients) → slice b e s ≡ tail
-  pub lifted : (side : Side) (n : Sizes) (shift : ℕ) {k : ℕ} → k ≡ get_or s a 0
-      → k ∷ (sum_words (of_pairs n) (lift_sum side n coefficients) ++ tail) ≡ step_words (of_pairs n) (lift_step side n shift x)
+  pub is : ws ≡ length tail ∷ (sum_words p coefficients ++ tail)
+  pub ranges : SumInRange p coefficients
+  pub lifted : (side : Side) (n : Sizes) (shift : ℕ)
+      → length tail ∷ (sum_words (of_pairs n) (lift_sum side n coefficients) ++ tail) ≡ step_words (of_pairs n) (lift_step side n shift x)
 
--- a step that ends before e and refers to one or two earlier steps, the first and the last of its words
-pub record Refers (s : List ℕ) (a e : ℕ) (x : Step) : Type 0 where
-  pub some : a + 2 ≤ e
-  pub first : get_or s (a + 1) 0 < 32
-  pub last : get_or s (e - 1) 0 < 32
-  pub lifted : (side : Side) (n : Sizes) (shift : ℕ) {k i j : ℕ} → k ≡ get_or s a 0 → i ≡ get_or s (a + 1) 0 → j ≡ get_or s (e - 1) 0
-      → slice 0 (e - a) (k ∷ (shift + i) ∷ (shift + j) ∷ []) ≡ step_words (of_pairs n) (lift_step side n shift x)
+-- one that refers to other steps by their numbers
+pub record Refers (ws : List ℕ) (x : Step) : Type 0 where
+  pub kind : ℕ
+  pub numbers : List ℕ
+  pub is : ws ≡ kind ∷ numbers
+  pub small : (i : ℕ) → i < length numbers → get_or numbers i 0 < 32
+  pub lifted : (side : Side) (n : Sizes) (shift : ℕ)
+      → kind ∷ map (λ i. shift + i) numbers ≡ step_words (of_pairs n) (lift_step side n shift x)
 
-two_numbers : {s : List ℕ} {a : ℕ} {x : Step} {end k i j e : ℕ} → WordsAt s a end (k ∷ i ∷ j ∷ []) → (i < 32) × (j < 32) → e ≡ end
-    → ((side : Side) (n : Sizes) (shift : ℕ)
-    → k ∷ (shift + i) ∷ (shift + j) ∷ [] ≡ step_words (of_pairs n) (lift_step side n shift x)) → Refers s a e x
-two_numbers {s} {a} {k = k} {i} {j} {e} w small ends lifted =
-    let second = word-here (word_next w) in
-    let place : e - 1 ≡ a + 2 = omega (arith, w.ends) in
-    let third : get_or s (e - 1) 0 ≡ j = rw place (word-here (span_right (k ∷ i ∷ []) (j ∷ []) w)) in
-    let number : e - a ≡ 3 = omega (arith, w.ends) in
-    record {
-      some = omega (arith, w.ends);
-      first = rw second small.0;
-      last = rw third small.1;
-      lifted = λ side n shift ek ei ej. rw (number, ek, ei, ej, word-here w, second, third) (lifted side n shift);
-    }
+one_small : {j : ℕ} → j < 32 → (i : ℕ) → i < 1 → get_or (j ∷ []) i 0 < 32
+one_small h zero l = h
+one_small h (suc i) l = absurd (omega arith)
+
+two_small : {j k : ℕ} → (j < 32) × (k < 32) → (i : ℕ) → i < 2 → get_or (j ∷ k ∷ []) i 0 < 32
+two_small h zero l = h.0
+two_small h (suc i) l = one_small h.1 i (omega arith)
+
+module _ (p : ℕ) where
+  pub sum_step : (x : Step) → StepInRange p 32 x → get_or (step_words p x) 0 0 ≤ 2 → SumStep p (step_words p x) x
+  unfolding step_words lift_step
+  sum_step (at_most cs b) h l =
+      record { coefficients = cs; tail = signed_word b ∷ []; is = refl; ranges = h.0; lifted = λ side n shift. refl }
+  sum_step (remainder cs m r) h l =
+      record { coefficients = cs; tail = m ∷ r ∷ []; is = refl; ranges = h.0; lifted = λ side n shift. refl }
+  sum_step (not_step i) h l = absurd (omega arith)
+  sum_step (and_step i j) h l = absurd (omega arith)
+  sum_step (or_step i j) h l = absurd (omega arith)
+
+  pub refers : (x : Step) → StepInRange p 32 x → 2 < get_or (step_words p x) 0 0 → Refers (step_words p x) x
+  unfolding step_words lift_step
+  refers (at_most cs b) h l = absurd (omega arith)
+  refers (remainder cs m r) h l = absurd (omega arith)
+  refers (not_step i) h l =
+      record { kind = 3; numbers = i ∷ []; is = refl; small = one_small h; lifted = λ side n shift. refl }
+  refers (and_step i j) h l =
+      record { kind = 4; numbers = i ∷ j ∷ []; is = refl; small = two_small h; lifted = λ side n shift. refl }
+  refers (or_step i j) h l =
+      record { kind = 5; numbers = i ∷ j ∷ []; is = refl; small = two_small h; lifted = λ side n shift. refl }
+
+  some_word : (x : Step) → 0 < length (step_words p x)
+  unfolding step_words
+  some_word (at_most cs b) = omega arith
+  some_word (remainder cs m r) = omega arith
+  some_word (not_step i) = omega arith
+  some_word (and_step i j) = omega arith
+  some_word (or_step i j) = omega arith
+
+-- ---- a step's end, as the code tells it
 
 module _ {p a : ℕ} {s : List ℕ} where
-  make_sum : {x : Step} {end k e : ℕ} (cs : List Coefficient) (tail : List ℕ) → SumInRange p cs → length tail ≡ k
-      → WordsAt s a end (k ∷ (sum_words p cs ++ tail)) → e ≡ end
-      → ((side : Side) (n : Sizes) (shift : ℕ)
-      → k ∷ (sum_words (of_pairs n) (lift_sum side n cs) ++ tail) ≡ step_words (of_pairs n) (lift_step side n shift x)) → SumStep p s a e x
-  unfolding sum_words set_words
-  make_sum cs tail ranges long w ends lifted =
-      let last = span_right (sum_words p cs) tail (word_next w) in
-      record {
-        coefficients = cs;
-        tail = tail;
-        sum = record { end = a + 1 + length (sum_words p cs); there = span_left (sum_words p cs) tail (word_next w); ranges = ranges };
-        some = omega arith;
-        ends = omega (arith, w.ends, length-append (sum_words p cs) tail, word-here w);
-        rest = λ eb. rw (eb, ends) (words-from last (omega (arith, last.ends, words-within w (omega arith))));
-        lifted = λ side n shift e. rw (e, word-here w) (lifted side n shift);
-      }
-
-  pub sum_step : (x : Step) (h : StepAt p s a x) → get_or s a 0 ≤ 2 → {e : ℕ} → e ≡ h.end → SumStep p s a e x
-  unfolding step_words lift_step
-  sum_step (at_most cs b) h l ends = make_sum cs (signed_word b ∷ []) h.ranges.0 refl h.there ends (λ side n shift. refl)
-  sum_step (remainder cs m r) h l ends = make_sum cs (m ∷ r ∷ []) h.ranges.0 refl h.there ends (λ side n shift. refl)
-  sum_step (not_step i) h l ends = absurd (omega (arith, word-here h.there))
-  sum_step (and_step i j) h l ends = absurd (omega (arith, word-here h.there))
-  sum_step (or_step i j) h l ends = absurd (omega (arith, word-here h.there))
-
-  pub refers : (x : Step) (h : StepAt p s a x) → 2 < get_or s a 0 → {e : ℕ} → e ≡ h.end → Refers s a e x
-  unfolding step_words lift_step
-  refers (at_most cs b) h l ends = absurd (omega (arith, word-here h.there))
-  refers (remainder cs m r) h l ends = absurd (omega (arith, word-here h.there))
-  refers (not_step i) h l {e} ends =
-      let second = word-here (word_next h.there) in
-      let place : e - 1 ≡ a + 1 = omega (arith, h.there.ends) in
-      let number : e - a ≡ 2 = omega (arith, h.there.ends) in
-      record {
-        some = omega arith;
-        first = rw second h.ranges;
-        last = rw (place, second) h.ranges;
-        lifted = λ side n shift ek ei ej. rw (number, ek, ei, word-here h.there, second);
-      }
-  refers (and_step i j) h l ends = two_numbers h.there h.ranges ends (λ side n shift. refl)
-  refers (or_step i j) h l ends = two_numbers h.there h.ranges ends (λ side n shift. refl)
-
-  -- its end, as the code tells it
-  sum-end : p ≤ 64 → (x : Step) (h : StepAt p s a x) → get_or s a 0 ≤ 2 → (a + step_length s a ≡ h.end) × (h.end ≤ length s)
+  sum-end : p ≤ 64 → (x : Step) (h : StepAt p s a x) → get_or s a 0 ≤ 2 → SumStep p (step_words p x) x → a + step_length s a ≡ h.end
   unfolding step_length
-  sum-end few x h l =
-      let v = sum_step x h l refl in
+  sum-end few x h l v =
+      let cs = v.coefficients in
+      let w : WordsAt s a h.end (length v.tail ∷ (sum_words p cs ++ v.tail)) = subst (WordsAt s a h.end) v.is h.there in
+      let sum : SumAt p s (a + 1) cs
+      = record { end = a + 1 + length (sum_words p cs); there = span_left (sum_words p cs) v.tail (word_next w); ranges = v.ranges } in
       let two : a + 1 + 1 ≡ a + 2 = omega arith in
       let end : a + (1 + sum_length (get_or s (a + 1) 0) (get_or s (a + 2) 0) + get_or s a 0) ≡ h.end
-      = omega (arith, rw two at (sum-long few v.sum), v.ends) in
-      (rw (tests.le-leb (get_or s a 0) 2 l) end, words-within h.there (omega (arith, v.ends, h.there.ends)))
+      = omega (arith, rw two at (sum-long few sum), w.ends, word-here w, length-append (sum_words p cs) v.tail) in
+      rw (tests.le-leb (get_or s a 0) 2 l) end
 
   pub step_end : p ≤ 64 → (x : Step) (h : StepAt p s a x) → (a + step_length s a ≡ h.end) × (h.end ≤ length s)
   unfolding step_length step_words
-  step_end few (at_most cs b) h = sum-end few (at_most cs b) h (omega (arith, word-here h.there))
-  step_end few (remainder cs m r) h = sum-end few (remainder cs m r) h (omega (arith, word-here h.there))
+  step_end few (at_most cs b) h =
+      let l : get_or s a 0 ≤ 2 = omega (arith, word-here h.there) in
+      (sum-end few (at_most cs b) h l (sum_step p (at_most cs b) h.ranges (omega arith)), words-within h.there (omega arith))
+  step_end few (remainder cs m r) h =
+      let l : get_or s a 0 ≤ 2 = omega (arith, word-here h.there) in
+      (sum-end few (remainder cs m r) h l (sum_step p (remainder cs m r) h.ranges (omega arith)), words-within h.there (omega arith))
   step_end few (not_step i) h = (rw (word-here h.there) (sym h.there.ends), words-within h.there (omega arith))
   step_end few (and_step i j) h = (rw (word-here h.there) (sym h.there.ends), words-within h.there (omega arith))
   step_end few (or_step i j) h = (rw (word-here h.there) (sym h.there.ends), words-within h.there (omega arith))
 
--- the step that the code is given, from a up to e
-pub few_states : {l : Lift} → SmallLift l → states_of l ≤ 64
-few_states {l} small = few_side small.few (side_of l.side)
+-- ---- the step that the code is given
 
-module _ {l : Lift} {s : List ℕ} {a e : ℕ} (small : SmallLift l) (given : SomeStep l s a e) where
-  pub ends-here : (x : Step) (h : StepAt (states_of l) s a x) → e ≡ h.end
-  ends-here x h = given.ends ∙ (step_end (few_states small) x h).0
+module _ (l : Lift) where
+  pub few_states : states_of l ≤ 64
+  few_states = few_side l.sizes.few (side_of l.side)
 
-  pub ends-within : e ≤ length s
-  ends-within = omega (arith, ends-here given.step given.here, (step_end (few_states small) given.step given.here).1)
+  -- by the words that it has among those of its sheet
+  pub step_of : {s : List ℕ} {a m : ℕ} (x : Step) → StepAt (states_of l) s a x → m ≡ step_length s a
+      → StepOf l (take (a + m - a) (drop a s)) x
+  step_of {s} {a} x h e =
+      let end = ap (λ (n : ℕ). a + n) e ∙ (step_end few_states x h).0 in
+      record { is = ap (λ (b : ℕ). take (b - a) (drop a s)) end ∙ words_part h.there; ranges = h.ranges }
 
-  pub sum-here : get_or s a 0 ≤ 2 → (x : Step) → StepAt (states_of l) s a x → SumStep (states_of l) s a e x
-  sum-here k x h = sum_step x h k (ends-here x h)
+  -- it ends within them, where it is the next of those that are left
+  pub step_within : {s : List ℕ} {n i k : ℕ} {rest : List Step}
+      → PartsLeft (step_words (states_of l)) (StepInRange (states_of l) 32) s n i k rest → k < n → i + step_length s i ≤ length s
+  step_within {rest = rest} left more =
+      let v = next_part rest left more in
+      omega (arith, step_end few_states v.part v.here)
 
-  pub refers_here : {k : ℕ} → k ≡ get_or s a 0 → 2 < k → (x : Step) → StepAt (states_of l) s a x → Refers s a e x
-  refers_here i k x h = refers x h (omega arith) (ends-here x h)
+module _ {l : Lift} {ws : List ℕ} where
+  pub step_begins : SomeStep l ws → 0 < length ws
+  step_begins (x, h) = rw h.is (some_word (states_of l) x)
+
+  pub sum_here : get_or ws 0 0 ≤ 2 → (x : Step) → StepOf l ws x → SumStep (states_of l) ws x
+  sum_here k x h = subst (λ us. SumStep (states_of l) us x) (sym h.is) (sum_step (states_of l) x h.ranges (rw (← h.is) k))
+
+  pub refers_here : 2 < get_or ws 0 0 → (x : Step) → StepOf l ws x → Refers ws x
+  refers_here k x h = subst (λ us. Refers us x) (sym h.is) (refers (states_of l) x h.ranges (rw (← h.is) k))
+
+-- ---- a sum and what follows it, as the code finds them
+
+module _ (p : ℕ) {ws : List ℕ} (tail : List ℕ) (cs : List Coefficient) (e : ws ≡ length tail ∷ (sum_words p cs ++ tail)) where
+  pub tail-long : (get_or ws 0 0 ≡ length tail) × (length ws ≡ 3 + length (times_words cs) + length tail)
+  unfolding sum_words set_words
+  tail-long = rw e (refl, omega (arith, length-append (times_words cs) tail))
+
+  pub sum_found : SumInRange p cs → {set : ℕ} {times : Bor (List ℕ)} → set ≡ get_or ws 1 0 + get_or ws 2 0 * W
+      → times.now ≡ take (length ws - get_or ws 0 0 - 3) (drop 3 ws) → SumOf p (record { marks = set; times = times }) cs
+  unfolding sum_words set_words
+  sum_found ranges es et = record {
+    ranges = ranges;
+    marks = es ∙ rw e (omega arith);
+    words = et ∙ rw e (take_at (times_words cs) tail _ (omega (arith, length-append (times_words cs) tail)));
+  }
+
+  pub tail_found : take (length ws - (length ws - get_or ws 0 0)) (drop (length ws - get_or ws 0 0) ws) ≡ tail
+  unfolding sum_words set_words
+  tail_found =
+      let front = length tail ∷ sum_words p cs in
+      let n : length ws - get_or ws 0 0 ≡ length front = omega (arith, tail-long) in
+      let m : length ws - (length ws - get_or ws 0 0) ≡ length tail = omega (arith, tail-long) in
+      let rest : drop (length ws - get_or ws 0 0) ws ≡ tail = rw n (rw e (drop_at front tail (length front) refl)) in
+      rw (m, rest) (take_all (length tail) tail (omega arith))
+
+-- the numbers of the steps that a step refers to
+pub numbers_found : {ws : List ℕ} {k : ℕ} (numbers : List ℕ) → ws ≡ k ∷ numbers → take (length ws - 1) (drop 1 ws) ≡ numbers
+numbers_found {ws} numbers e =
+    let m : length ws - 1 ≡ length numbers = omega (arith, ap length e) in
+    rw (m, e) (take_all (length numbers) numbers (omega arith))

@@ -1,19 +1,18 @@
 -- How large the parts of a rule and of the joint rule of two are.
 use mathlib.Core.Path.{◌≡◌, refl, sym, ap, subst, ◌∙◌}
 use mathlib.Core.Logic.{◌≢◌}
-use mathlib.Core.Bool.{Bool, true, false, cond}
+use mathlib.Core.Bool.{Bool, true, false}
 use mathlib.Core.List.{List, [], ◌∷◌, ◌++◌, map, flat_map}
-use mathlib.Core.Option.{Option, none, some}
+use mathlib.Core.Option as math
 use Prim.Native.Nat.{ℕ, ◌+◌, ◌-◌, ◌*◌, ◌^◌, ◌≤◌}
 use native.Mathlib.Omega.{arith}
-use lib.Dec.{eqb}
 use lib.ListN.{length, get_or, length-append, length-map}
-use borrow.Author.Tests as tests
+use Rattle.std.specs.Prelude.{Option, Some, None}
 use Rattle.model.specs.Lists as lists
 use Rattle.model.specs.Sheet.{Order, Step, Rule, one, two, three, arc_word, order_words, set_words, step_words, count_words, rule_words}
 use Rattle.model.specs.Sheet.{at_most, remainder, not_step, and_step, or_step}
 use Rattle.model.specs.Sheet.{RuleInRange, OrderInRange, CountInRange, IfAny}
-use Rattle.model.specs.Spans.{Content, OrderAt, there_is, order_part, count_part}
+use Rattle.model.specs.Spans.{Content, OrderAt, CountAt, there_is, order_part, count_part}
 use Rattle.model.specs.Index.{sheet_in}
 use Rattle.model.specs.Compose.{Side, S, T, Sizes, of_side, of_other, of_pairs, lift_arc, pair_arc, lift_order, pair_order, joint_order}
 use Rattle.model.specs.Compose.{lift_step, joint_count}
@@ -22,32 +21,31 @@ use Rattle.model.proofs.Spans.{word-here}
 use Rattle.model.proofs.RuleWords.{order-room, is-there, not_there, content-words, as_text, as_tag, as_content}
 use Rattle.join_pairs.specs.declared.Side as code
 use Rattle.join_pairs.specs.declared.Sizes as numbers
-use Rattle.join_pairs.specs.Sides.{side_of, sizes_of, FewPairs}
+use Rattle.join_pairs.specs.declared.Part.{Part}
+use Rattle.join_pairs.specs.Sides.{side_of, sizes_of}
 use Rattle.join_pairs.proofs.NumberLaws.{mul_le, few-S, few-T}
 use Rattle.join_count.specs.Counts.{SomeCount, LiftsCount}
 use Rattle.join_count.proofs.CountWords.{count-number}
 use Rattle.join_alike.specs.declared.Spot.{Spot}
-use Rattle.join_alike.specs.Spots.{rule_of, SpotOf, parts_of}
+use Rattle.join_alike.specs.Spots.{parts_of}
+use Rattle.join_alike.specs.Alike.{rule_of}
+use Rattle.join_alike.proofs.SpotLaws.{stands}
 use Rattle.join_alike.proofs.RuleParts.{order-here, count-here}
 use Rattle.join_alike.proofs.AlikeLaws.{JointOf, texts, tags, contents}
 use Rattle.join_extents.specs.declared.OrderSize.{OrderSize}
 use Rattle.join_extents.specs.declared.CountSize.{CountSize}
 use Rattle.join_extents.specs.declared.Extent.{Extent}
-use Rattle.join_extents.specs.Extents.{RuleOf, order_size, count_size, lifted_size, SmallOrder, SmallCount, joint_order_size}
-use Rattle.join_extents.specs.Extents.{joint_count_size, extent_of, extent_in, Small, joint_extent}
+use Rattle.join_extents.specs.Extents.{OfSide, order_size, count_size, lifted_size, SmallOrder, SmallCount, joint_order_size}
+use Rattle.join_extents.specs.Extents.{joint_count_size, extent_of, extent_in, joint_extent, order_words_in, words_in}
 use Rattle.join_extents.specs.Extents.{fixed_words, words_of}
 
 -- ---- the joint parts
 
--- a part has a size
-has-size : {n : ℕ} → 1 ≤ n → eqb n 0 ≡ false
-has-size {n} h = tests.ne_eqb n 0 (omega arith)
+abbrev order : (positions arcs : ℕ) → Option OrderSize
+order m n = Some (record { positions = m; arcs = n })
 
-abbrev order : (positions arcs : ℕ) → OrderSize
-order m n = record { positions = m; arcs = n }
-
-abbrev count : (steps words : ℕ) → CountSize
-count k l = record { steps = k; words = l }
+abbrev count : (steps words : ℕ) → Option CountSize
+count k l = Some (record { steps = k; words = l })
 
 order_like : {p q a b : ℕ} → p ≡ q → a ≡ b → order p a ≡ order q b
 order_like e f = λ i. order (e i) (f i)
@@ -55,7 +53,7 @@ order_like e f = λ i. order (e i) (f i)
 count_like : {k l v w : ℕ} → k ≡ l → v ≡ w → count k v ≡ count l w
 count_like e f = λ i. count (e i) (f i)
 
-extent_like : {o u : OrderSize} {c d : CountSize} → o ≡ u → c ≡ d
+extent_like : {o u : Option OrderSize} {c d : Option CountSize} → o ≡ u → c ≡ d
     → ◌≡◌ {A = Extent} (record { order = o; count = c }) (record { order = u; count = d })
 extent_like e f = λ i. record { order = e i; count = f i }
 
@@ -94,52 +92,44 @@ shifted_long side n k (x ∷ ss) =
 
 -- ---- the words of a rule
 
-order-long : (o : Option Order) → (there_is o ≡ true → 1 ≤ (order_size o).positions)
-    → length (order_part o) ≡ cond (eqb (order_size o).positions 0) 0 (4 + (order_size o).arcs)
+order-long : (o : math.Option Order) → length (order_part o) ≡ order_words_in (order_size o)
 unfolding order_words set_words
-order-long none h = refl
-order-long (some o) h = rw (has-size (h refl)) (omega (arith, length-map o.arcs arc_word))
+order-long math.none = refl
+order-long (math.some o) = omega (arith, length-map o.arcs arc_word)
 
-count_long : (p : ℕ) (φ : Option (List Step)) → length (count_part p φ) ≡ (count_size p φ).words
-count_long p none = refl
-count_long p (some ss) = refl
+count_long : (p : ℕ) (φ : math.Option (List Step)) → length (count_part p φ) ≡ words_in (count_size p φ)
+count_long p math.none = refl
+count_long p (math.some ss) = refl
 
-content-long : (p : ℕ) (o : Option Order) (φ : Option (List Step)) (q : ℕ) → (there_is o ≡ true → 1 ≤ (order_size o).positions)
+content-long : (p : ℕ) (o : math.Option Order) (φ : math.Option (List Step)) (q : ℕ)
     → length (rule_words p (three o φ q)) ≡ words_of 2 (extent_in p (three o φ q))
-content-long p o φ q h =
+content-long p o φ q =
     omega (
       arith,
       ap length (content-words p o φ q),
       length-append (order_part o) (count_part p φ ++ (q ∷ [])),
       length-append (count_part p φ) (q ∷ []),
-      order-long o h,
+      order-long o,
       count_long p φ,
     )
 
 -- ---- joint parts
 
-module _ (n : Sizes) (p q : ℕ) where
-  joint_orders : (o u : Option Order) → IfAny (OrderInRange p) o → IfAny (OrderInRange q) u
-      → order_size (joint_order n o u) ≡ joint_order_size n (order_size o) (order_size u)
+module _ (n : Sizes) where
+  joint_orders : (o u : math.Option Order) → order_size (joint_order n o u) ≡ joint_order_size n (order_size o) (order_size u)
   unfolding joint_order lift_order pair_order
-  joint_orders none none h k = order_like refl (omega arith)
-  joint_orders none (some u) h k = order_like refl (lifted_arcs T n u)
-  joint_orders (some o) none h k = rw (has-size h.some_positions) (order_like refl (lifted_arcs S n o))
-  joint_orders (some o) (some u) h k =
-      rw (has-size h.some_positions, has-size k.some_positions)
-      (order_like refl (length-grid (pair_arc u.positions n.of_T) o.arcs u.arcs))
+  joint_orders math.none math.none = refl
+  joint_orders math.none (math.some u) = order_like refl (lifted_arcs T n u)
+  joint_orders (math.some o) math.none = order_like refl (lifted_arcs S n o)
+  joint_orders (math.some o) (math.some u) = order_like refl (length-grid (pair_arc u.positions n.of_T) o.arcs u.arcs)
 
-  -- a lifted count part has as many steps
-  some_lifted : (side : Side) (ss : List Step) → 1 ≤ length ss → eqb (length (map (lift_step side n 0) ss)) 0 ≡ false
-  some_lifted side ss h = tests.ne_eqb (length (map (lift_step side n 0) ss)) 0 (omega (arith, length-map ss (lift_step side n 0)))
-
-  joint-counts : (φ ψ : Option (List Step)) → IfAny (CountInRange p) φ → IfAny (CountInRange q) ψ
+  joint-counts : (φ ψ : math.Option (List Step))
       → count_size (of_pairs n) (joint_count n φ ψ) ≡ joint_count_size (lifted_size S n φ) (lifted_size T n ψ)
   unfolding joint_count count_words flat_map step_words
-  joint-counts none none h k = refl
-  joint-counts none (some ts) h k = refl
-  joint-counts (some ss) none h k = rw (some_lifted S ss h.some_steps)
-  joint-counts (some ss) (some ts) h k =
+  joint-counts math.none math.none = refl
+  joint-counts math.none (math.some ts) = refl
+  joint-counts (math.some ss) math.none = refl
+  joint-counts (math.some ss) (math.some ts) =
       let words = step_words (of_pairs n) in
       let lower = map (lift_step S n 0) ss in
       let upper = map (lift_step T n (length ss)) ts in
@@ -147,8 +137,7 @@ module _ (n : Sizes) (p q : ℕ) where
       let number = length-append lower (upper ++ last) in
       let long = ap length (each_append words lower (upper ++ last)) in
       let later = ap length (each_append words upper last) in
-      rw (some_lifted S ss h.some_steps, some_lifted T ts k.some_steps)
-      (count_like
+      count_like
       (omega (arith, number, length-append upper last, length-map ts (lift_step T n 0), length-map ts (lift_step T n (length ss))))
       (omega (
         arith,
@@ -157,29 +146,20 @@ module _ (n : Sizes) (p q : ℕ) where
         later,
         length-append (flat_map words upper) (flat_map words last),
         shifted_long T n (length ss) ts,
-      )))
-
-  -- a joint order part has a position
-  joint-some : (o u : Option Order) → IfAny (OrderInRange p) o → IfAny (OrderInRange q) u → there_is (joint_order n o u) ≡ true
-      → 1 ≤ (order_size (joint_order n o u)).positions
-  unfolding joint_order lift_order pair_order
-  joint-some none none h k e = let z : ◌≡◌ {A = ℕ} 0 1 = cc in absurd (omega arith)
-  joint-some none (some u) h k e = k.some_positions
-  joint-some (some o) none h k e = h.some_positions
-  joint-some (some o) (some u) h k e = mul_le 1 1 h.some_positions k.some_positions
+      ))
 
   -- ---- the joint rule
 
   -- its extent and its words
-  pub joint_sized : {x y z : Rule} → JointOf n x y z → RuleInRange p 64 x → RuleInRange q 64 y
+  pub joint_sized : {x y z : Rule} → JointOf n x y z
       → (extent_in (of_pairs n) z ≡ joint_extent n (extent_of S n x) (extent_of T n y))
       × (length (rule_words (of_pairs n) z) ≡ words_of (fixed_words x) (extent_in (of_pairs n) z))
   unfolding joint_order joint_count rule_words
-  joint_sized (texts k s t) h i = (extent_like (joint_orders none none tt tt) (joint-counts none none tt tt), refl)
-  joint_sized (tags g c d s t) h i = (extent_like (joint_orders none none tt tt) (joint-counts none none tt tt), refl)
-  joint_sized (contents o u φ ψ s t) h i = (
-    extent_like (joint_orders o u h.0 i.0) (joint-counts φ ψ h.1 i.1),
-    content-long (of_pairs n) (joint_order n o u) (joint_count n φ ψ) _ (joint-some o u h.0 i.0),
+  joint_sized (texts k s t) = (refl, refl)
+  joint_sized (tags g c d s t) = (refl, refl)
+  joint_sized (contents o u φ ψ s t) = (
+    extent_like (joint_orders o u) (joint-counts φ ψ),
+    content-long (of_pairs n) (joint_order n o u) (joint_count n φ ψ) _,
   )
 
 -- ---- by the code's tests
@@ -191,78 +171,64 @@ positions-word h = word-here h.there
 small-order : (p : ℕ) (x : Rule) → RuleInRange p 64 x → SmallOrder (order_size (parts_of x).order)
 small-order p (one k q) h = record { positions = omega arith; arcs = omega arith }
 small-order p (two g c q) h = record { positions = omega arith; arcs = omega arith }
-small-order p (three none φ q) h = record { positions = omega arith; arcs = omega arith }
-small-order p (three (some o) φ q) h = record { positions = h.0.few_positions; arcs = h.0.few_arcs }
+small-order p (three math.none φ q) h = record { positions = omega arith; arcs = omega arith }
+small-order p (three (math.some o) φ q) h = record { positions = h.0.few_positions; arcs = h.0.few_arcs }
 
-abbrev parts_at : List ℕ → Spot → Content
-parts_at s x = parts_of (rule_of s x)
+module _ (x : Spot) where
+  abbrev s : List ℕ
+  s = x.sheet.words.now
 
-module _ {s : List ℕ} {x : Spot} (h : SpotOf s x) where
+  abbrev parts : Content
+  parts = parts_of (rule_of x)
+
   -- what the code finds is the size of the order part, and small
-  is-order : {o : OrderSize} → o ≡ order_size (parts_at s x).order → (o ≡ order_size (parts_at s x).order) × SmallOrder o
-  is-order e = (e, subst SmallOrder (sym e) (small-order (sheet_in s).states (rule_of s x) h.begins.ranges))
+  is-order : {o : Option OrderSize} → o ≡ order_size parts.order → (o ≡ order_size parts.order) × SmallOrder o
+  is-order e = (e, subst SmallOrder (sym e) (small-order (sheet_in s).states (rule_of x) (stands x).begins.ranges))
 
-  module _ {r : Bool} (e : r ≡ there_is (parts_at s x).order) where
+  module _ {r : Bool} (e : r ≡ there_is parts.order) where
     pub order-there : r ≡ true → {m n : ℕ} → m ≡ get_or s (x.at + 1) 0 → n ≡ get_or s (x.at + 4) 0
-        → (order m n ≡ order_size (parts_at s x).order) × SmallOrder (order m n)
+        → (order m n ≡ order_size parts.order) × SmallOrder (order m n)
     order-there t em en =
-        let (o, i) = is-there (parts_at s x).order (sym e ∙ t) in
-        let at = order-here h i in
+        let (o, i) = is-there parts.order (sym e ∙ t) in
+        let at = order-here x i in
         let there : x.at + 1 + 3 ≡ x.at + 4 = omega arith in
         is-order (order_like (em ∙ positions-word at) (en ∙ rw there at (order-room at).1) ∙ ap order_size (sym i))
 
-    pub order_none : r ≡ false → (order 0 0 ≡ order_size (parts_at s x).order) × SmallOrder (order 0 0)
-    order_none t = is-order (ap order_size (sym (not_there (parts_at s x).order (sym e ∙ t))))
+    pub order_none : r ≡ false → (None ≡ order_size parts.order) × SmallOrder None
+    order_none t = is-order (ap order_size (sym (not_there parts.order (sym e ∙ t))))
 
-  pub fixed_text : {m : ℕ} → m ≡ get_or s x.at 0 → m ≡ 33 → (3 ≡ fixed_words (rule_of s x)) × (3 ≤ 4)
-  fixed_text e f = let (k, q, i) = as_text (rule_of s x) h.begins (sym e ∙ f) in (ap fixed_words (sym i), omega arith)
+  pub fixed_text : {m : ℕ} → m ≡ get_or s x.at 0 → m ≡ 33 → 3 ≡ fixed_words (rule_of x)
+  fixed_text e f = let (k, q, i) = as_text (rule_of x) (stands x).begins (sym e ∙ f) in ap fixed_words (sym i)
 
-  pub fixed_tag : {m : ℕ} → m ≡ get_or s x.at 0 → m ≡ 38 → (4 ≡ fixed_words (rule_of s x)) × (4 ≤ 4)
-  fixed_tag e f = let (g, c, q, i) = as_tag (rule_of s x) h.begins (sym e ∙ f) in (ap fixed_words (sym i), omega arith)
+  pub fixed_tag : {m : ℕ} → m ≡ get_or s x.at 0 → m ≡ 38 → 4 ≡ fixed_words (rule_of x)
+  fixed_tag e f = let (g, c, q, i) = as_tag (rule_of x) (stands x).begins (sym e ∙ f) in ap fixed_words (sym i)
 
-  pub fixed_content : {m : ℕ} → m ≡ get_or s x.at 0 → m ≢ 33 → m ≢ 38 → (2 ≡ fixed_words (rule_of s x)) × (2 ≤ 4)
-  fixed_content e f g = let v = as_content (rule_of s x) h.begins (λ i. f (e ∙ i)) (λ i. g (e ∙ i)) in
-      (ap fixed_words (sym v.is), omega arith)
+  pub fixed_content : {m : ℕ} → m ≡ get_or s x.at 0 → m ≢ 33 → m ≢ 38 → 2 ≡ fixed_words (rule_of x)
+  fixed_content e f g =
+      let v = as_content (rule_of x) (stands x).begins (λ i. f (e ∙ i)) (λ i. g (e ∙ i)) in ap fixed_words (sym v.is)
 
--- the count part of a rule of a side
-module _ {side : code.Side} {n : numbers.Sizes} {s : List ℕ} {x : Spot} (h : RuleOf side n s x) {r : Bool}
-    (e : r ≡ there_is (parts_at s x).count) where
-  module _ (t : r ≡ true) {c : ℕ} (at : c ≡ x.at + 1 + length (order_part (parts_at s x).order)) where
-    pub count_given : FewPairs (sizes_of n) × SomeCount (of_side (side_of side) (sizes_of n)) s c
-    count_given =
-        let (ss, i) = is-there (parts_at s x).count (sym e ∙ t) in
-        (h.few, (ss, rw h.states at (count-here h.spot at i)))
+  -- the count part of a rule of a side
+  module _ (side : code.Side) (n : numbers.Sizes) (h : OfSide side n x) {r : Bool} (e : r ≡ there_is parts.count) where
+    module _ (t : r ≡ true) (c : Part) (here : c.words ≡ x.sheet.words) (at : c.at ≡ x.at + 1 + length (order_part parts.order)) where
+      stands-at : {ss : List Step} → parts.count ≡ math.some ss
+          → CountAt (of_side (side_of side) (sizes_of n)) c.words.now c.at ss
+      stands-at i = rw (here, ← h) (count-here x at i)
 
-    pub count-there : {k l : ℕ} → k ≡ get_or s c 0 → LiftsCount side n s c (λ ws. l ≡ length ws) × (l ≤ 2 ^ 18)
-        → (count k l ≡ lifted_size (side_of side) (sizes_of n) (parts_at s x).count) × SmallCount (count k l)
-    count-there {k} {l} ek (long, few) =
-        let (ss, i) = is-there (parts_at s x).count (sym e ∙ t) in
-        let here = rw h.states at (count-here h.spot at i) in
-        let steps = ek ∙ sym (count-number here) in
-        let size = count_like (steps ∙ sym (length-map ss (lift_step (side_of side) (sizes_of n) 0))) (long ss here) in (
-          size ∙ ap (lifted_size (side_of side) (sizes_of n)) (sym i),
-          record { steps = omega (arith, steps, here.ranges.few_steps); words = few },
-        )
+      pub count_given : SomeCount (of_side (side_of side) (sizes_of n)) c
+      count_given = let (ss, i) = is-there parts.count (sym e ∙ t) in (ss, stands-at i)
 
-  pub count_none : r ≡ false → (count 0 0 ≡ lifted_size (side_of side) (sizes_of n) (parts_at s x).count) × SmallCount (count 0 0)
-  count_none t =
-      let none = not_there (parts_at s x).count (sym e ∙ t) in (
-        ap (lifted_size (side_of side) (sizes_of n)) (sym none),
-        record { steps = omega arith; words = omega arith },
-      )
+      pub count-there : {k l : ℕ} → k ≡ get_or c.words.now c.at 0 → LiftsCount side n c (λ ws. l ≡ length ws) → l ≤ 2 ^ 18
+          → (count k l ≡ lifted_size (side_of side) (sizes_of n) parts.count) × SmallCount (count k l)
+      count-there {k} {l} ek long few =
+          let (ss, i) = is-there parts.count (sym e ∙ t) in
+          let steps = ek ∙ sym (count-number (stands-at i)) in
+          let size = count_like (steps ∙ sym (length-map ss (lift_step (side_of side) (sizes_of n) 0))) (long ss (stands-at i)) in (
+            size ∙ ap (lifted_size (side_of side) (sizes_of n)) (sym i),
+            record { steps = omega (arith, steps, (stands-at i).ranges.few_steps); words = omega arith },
+          )
 
-pub extent_made : {o u : OrderSize} {c d : CountSize} → (o ≡ u) × SmallOrder o → (c ≡ d) × SmallCount c
-    → let e : Extent = record { order = o; count = c } in (e ≡ record { order = u; count = d }) × Small e
-extent_made (eo, so) (ec, sc) = (extent_like eo ec, record { order = so; count = sc })
-
--- ---- what the code makes of two order parts
-
-pub products_small : {x y : OrderSize} {n : numbers.Sizes} → SmallOrder x × SmallOrder y × FewPairs (sizes_of n)
-    → (x.positions * y.positions ≤ 64 * 64) × (x.arcs * n.t ≤ 1024 * 64) × (y.arcs * n.s ≤ 1024 * 64)
-    × (x.arcs * y.arcs ≤ 1024 * 1024)
-products_small (x, y, few) = (
-  mul_le _ _ x.positions y.positions,
-  mul_le _ _ x.arcs (few-T few),
-  mul_le _ _ y.arcs (few-S few),
-  mul_le _ _ x.arcs y.arcs,
-)
+    pub count_none : r ≡ false → (None ≡ lifted_size (side_of side) (sizes_of n) parts.count) × SmallCount None
+    count_none t = (
+      ap (lifted_size (side_of side) (sizes_of n)) (sym (not_there parts.count (sym e ∙ t))),
+      record { steps = omega arith; words = omega arith },
+    )

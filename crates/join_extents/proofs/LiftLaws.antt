@@ -19,7 +19,7 @@ use Rattle.model.proofs.PartLaws.{PartsLeft, next_part, none_left, each_next, ea
 use Rattle.page.specs.Page.{repeated, repeated_each}
 use Rattle.parts.specs.Lengths.{sum_length, step_length}
 use Rattle.join_sum.proofs.SumWords.{lifted_times, times_words, times_lifted, sum-long}
-use Rattle.join_pairs.specs.Sides.{FewPairs}
+use Rattle.join_pairs.specs.Pairs.{FewPairs}
 use Rattle.join_pairs.proofs.NumberLaws.{mul_le, few_side, few_other}
 use Rattle.join_count.proofs.StepWords.{step_end}
 use Rattle.join_count.proofs.CountWords.{count-number, count-steps}

@@ -3,28 +3,30 @@
 
 ghost use Rattle.std.specs.Prelude.{◌≡◌, ◌-◌, ◌^◌, ◌≤◌, length};
 ghost use Rattle.model.specs.Compose.{of_side};
-ghost use Rattle.join_pairs.specs.Sides.{side_of, sizes_of, FewPairs};
+ghost use Rattle.join_pairs.specs.Sides.{side_of, sizes_of};
 ghost use Rattle.join_count.specs.Counts.{SomeCount, LiftsCount};
-ghost use Rattle.join_alike.specs.Spots.{rule_of, SpotOf, parts_of};
-ghost use Rattle.join_extents.specs.Extents.{coefficients_at, RuleOf, order_size, lifted_size, extent_of, fixed_words};
-ghost use Rattle.join_extents.specs.Extents.{joint_order_size, joint_count_size, SmallOrder, SmallCount, Small, words_of};
+ghost use Rattle.join_alike.specs.Spots.{parts_of};
+ghost use Rattle.join_alike.specs.Alike.{rule_of};
+ghost use Rattle.join_extents.specs.Extents.{coefficients_at, OfSide, order_size, lifted_size, extent_of, fixed_words};
+ghost use Rattle.join_extents.specs.Extents.{positions_in, arcs_in, steps_in, words_in, joint_order_size, joint_count_size, joint_extent, words_of};
+ghost use Rattle.join_extents.specs.Extents.{SmallOrder, SmallCount, Small, Fits};
 
-use join_alike::{Spot, count_at, with_count, with_order};
-use join_pairs::{Side, Sizes, of_other};
-use layout::{REMAINDER, TAG_RULE, TEXT_RULE, wide};
+use join_alike::Spot;
+use join_pairs::{Part, Side, Sizes};
+use layout::{REMAINDER, TAG_RULE, TEXT_RULE};
 use parts::{at, field};
 
 // the words of an order part before its arcs
 const ORDER_HEAD: usize = 4;
 
-// How many positions and arcs an order part has: both 0 where there is none, else at least one position.
+// How many positions and arcs an order part has.
 #[derive(Clone, Copy)]
 pub struct OrderSize {
     pub positions: u32,
     pub arcs: u32,
 }
 
-// How many steps a count part has, and how many words over the pairs of states: both 0 where there is none.
+// How many steps a count part has, and how many words over the pairs of states.
 #[derive(Clone, Copy)]
 pub struct CountSize {
     pub steps: u32,
@@ -34,8 +36,8 @@ pub struct CountSize {
 // The sizes of a rule's parts.
 #[derive(Clone, Copy)]
 pub struct Extent {
-    pub order: OrderSize,
-    pub count: CountSize,
+    pub order: Option<OrderSize>,
+    pub count: Option<CountSize>,
 }
 
 // How many coefficients the step at `a` has.
@@ -46,140 +48,164 @@ fn coefficients_at(words: &[u32], a: usize) -> usize
         return 0;
     }
     let marks = bits::of_words(field(words, a, 1), field(words, a, 2));
-    wide(bits::size(marks))
+    bits::size(marks) as usize
 }
 
-// The number of words of the count part at `c`, lifted: it has each coefficient for every state of the other sheet.
-fn lifted_length(words: &[u32], c: usize, side: Side, sizes: Sizes) -> usize
-    requires { FewPairs (sizes_of sizes) × SomeCount (of_side (side_of side) (sizes_of sizes)) words.now c }
-    ensures is { LiftsCount side sizes words.now c (λ ws. result ≡ length ws) }
+// The number of words of a count part, lifted: it has each coefficient for every state of the other sheet.
+fn lifted_length(part: Part, side: Side, sizes: Sizes) -> usize
+    requires { SomeCount (of_side (side_of side) (sizes_of sizes)) part }
+    ensures is { LiftsCount side sizes part.entry (λ ws. result ≡ length ws) }
     ensures small { result ≤ 2 ^ 18 }
 {
-    let more = wide(of_other(side, sizes)) - 1;
-    let n = at(words, c);
+    let words = part.words;
+    let more = sizes.other(side) as usize - 1;
+    let n = at(words, part.at);
     let mut lifted = 1;
-    let mut i = c + 1;
-    let mut k = 0;
-    while k < n {
+    let mut i = part.at + 1;
+    for _ in 0..n {
         let own = parts::step_length(words, i);
         lifted += own + coefficients_at(words, i) * more;
         i += own;
-        k += 1;
     }
     lifted
 }
 
-// The size of a rule's order part.
-fn order_size(words: &[u32], x: Spot) -> OrderSize
-    requires { SpotOf words.now x }
-    ensures is { result ≡ order_size (parts_of (rule_of words.now x)).order }
+// The size of a rule's order part, if it has one.
+fn order_size(spot: &Spot) -> Option<OrderSize>
+    ensures is { result ≡ order_size (parts_of (rule_of spot.now)).order }
     ensures small { SmallOrder result }
 {
-    if with_order(words, x) {
-        let a = x.at;
-        return OrderSize {
-            positions: field(words, a, 1),
-            arcs: field(words, a, 4),
-        };
-    }
-    OrderSize {
-        positions: 0,
-        arcs: 0,
+    if spot.has_order() {
+        Some(OrderSize {
+            positions: spot.word(1),
+            arcs: spot.word(4),
+        })
+    } else {
+        None
     }
 }
 
-// The size of a rule's count part, lifted.
-fn count_size(words: &[u32], x: Spot, side: Side, sizes: Sizes) -> CountSize
-    requires { RuleOf side sizes words.now x }
-    ensures is { result ≡ lifted_size (side_of side) (sizes_of sizes) (parts_of (rule_of words.now x)).count }
+// The size of a rule's count part, lifted, if it has one.
+fn count_size(spot: &Spot, side: Side, sizes: Sizes) -> Option<CountSize>
+    requires { OfSide side sizes spot.now }
+    ensures is { result ≡ lifted_size (side_of side) (sizes_of sizes) (parts_of (rule_of spot.now)).count }
     ensures small { SmallCount result }
 {
-    if with_count(words, x) {
-        let c = count_at(words, x);
-        return CountSize {
-            steps: at(words, c),
-            words: lifted_length(words, c, side, sizes),
-        };
+    if spot.has_count() {
+        let part = spot.count_part();
+        Some(CountSize {
+            steps: at(part.words, part.at),
+            words: lifted_length(part, side, sizes),
+        })
+    } else {
+        None
     }
-    CountSize { steps: 0, words: 0 }
 }
 
 // The extent of a rule of a sheet, its count part lifted.
-pub fn extent_at(words: &[u32], x: Spot, side: Side, sizes: Sizes) -> Extent
-    requires { RuleOf side sizes words.now x }
-    ensures is { result ≡ extent_of (side_of side) (sizes_of sizes) (rule_of words.now x) }
+pub fn extent_at(spot: &Spot, side: Side, sizes: Sizes) -> Extent
+    requires { OfSide side sizes spot.now }
+    ensures is { result ≡ extent_of (side_of side) (sizes_of sizes) (rule_of spot.now) }
     ensures small { Small result }
 {
     Extent {
-        order: order_size(words, x),
-        count: count_size(words, x, side, sizes),
+        order: order_size(spot),
+        count: count_size(spot, side, sizes),
     }
 }
 
-// The size of the joint order part of two.
-pub fn joint_order(x: OrderSize, y: OrderSize, sizes: Sizes) -> OrderSize
-    requires { SmallOrder x × SmallOrder y × FewPairs (sizes_of sizes) }
+// The size of the joint order part of two rules, if it has one.
+fn joint_order(x: Option<OrderSize>, y: Option<OrderSize>, sizes: Sizes) -> Option<OrderSize>
+    requires { SmallOrder x × SmallOrder y }
     ensures is { result ≡ joint_order_size (sizes_of sizes) x y }
-    ensures few { result.arcs ≤ 2 ^ 20 }
+    ensures few { arcs_in result ≤ 2 ^ 20 }
 {
-    if x.positions == 0 {
-        return OrderSize {
-            positions: y.positions,
-            arcs: y.arcs * sizes.s,
-        };
-    }
-    if y.positions == 0 {
-        return OrderSize {
-            positions: x.positions,
-            arcs: x.arcs * sizes.t,
-        };
-    }
-    OrderSize {
-        positions: x.positions * y.positions,
-        arcs: x.arcs * y.arcs,
+    match (x, y) {
+        (None, None) => None,
+        (Some(o), None) => Some(OrderSize {
+            positions: o.positions,
+            arcs: o.arcs * sizes.t,
+        }),
+        (None, Some(u)) => Some(OrderSize {
+            positions: u.positions,
+            arcs: u.arcs * sizes.s,
+        }),
+        (Some(o), Some(u)) => Some(OrderSize {
+            positions: o.positions * u.positions,
+            arcs: o.arcs * u.arcs,
+        }),
     }
 }
 
-// The size of the joint count part of two.
-pub fn joint_count(x: CountSize, y: CountSize) -> CountSize
+// The size of the joint count part of two rules, if it has one.
+fn joint_count(x: Option<CountSize>, y: Option<CountSize>) -> Option<CountSize>
     requires { SmallCount x × SmallCount y }
     ensures is { result ≡ joint_count_size x y }
-    ensures few { result.words ≤ 2 ^ 20 - 8 }
+    ensures few { words_in result ≤ 2 ^ 20 - 8 }
 {
-    if x.steps == 0 {
-        return y;
-    }
-    if y.steps == 0 {
-        return x;
-    }
-    // the `and` that closes the steps has three words; the number of steps stands once
-    CountSize {
-        steps: x.steps + y.steps + 1,
-        words: x.words + y.words + 2,
+    match (x, y) {
+        // the `and` that closes the steps has three words; the number of steps stands once
+        (Some(c), Some(d)) => Some(CountSize {
+            steps: c.steps + d.steps + 1,
+            words: c.words + d.words + 2,
+        }),
+        _ => x.or(y),
     }
 }
 
 // The number of a rule's words that are in none of its parts.
-pub fn fixed_words(words: &[u32], x: Spot) -> usize
-    requires { SpotOf words.now x }
-    ensures is { result ≡ fixed_words (rule_of words.now x) }
+pub fn fixed_words(spot: &Spot) -> usize
+    ensures is { result ≡ fixed_words (rule_of spot.now) }
     ensures few { result ≤ 4 }
 {
-    match at(words, x.at) {
+    match spot.map() {
         TEXT_RULE => 3,
         TAG_RULE => 4,
         _ => 2,
     }
 }
 
-// The number of words of a rule by the sizes of its parts; `fixed` of them are in none of these.
-pub fn words_of(fixed: usize, order: OrderSize, count: CountSize) -> usize
-    requires { (fixed ≤ 4) × (order.arcs ≤ 2 ^ 20) × (count.words ≤ 2 ^ 20 - 8) }
-    ensures is { result ≡ words_of fixed (record { order = order; count = count }) }
-    ensures few { result ≤ 2 ^ 21 }
-{
-    if order.positions == 0 {
-        return fixed + count.words;
+impl Extent {
+    // The extent of the joint rule of two rules.
+    pub fn joint(self, other: Extent, sizes: Sizes) -> Extent
+        requires { Small self × Small other }
+        ensures is { result ≡ joint_extent (sizes_of sizes) self other }
+        ensures fits { Fits result }
+    {
+        Extent {
+            order: joint_order(self.order, other.order, sizes),
+            count: joint_count(self.count, other.count),
+        }
     }
-    fixed + ORDER_HEAD + wide(order.arcs) + count.words
+
+    // How many positions the order part has, if there is one.
+    pub fn positions(self) -> u32
+        ensures { result ≡ positions_in self.order }
+    {
+        self.order.map_or(0, |o| o.positions)
+    }
+
+    // How many arcs the order part has, if there is one.
+    pub fn arcs(self) -> u32
+        ensures { result ≡ arcs_in self.order }
+    {
+        self.order.map_or(0, |o| o.arcs)
+    }
+
+    // How many steps the count part has, if there is one.
+    pub fn steps(self) -> u32
+        ensures { result ≡ steps_in self.count }
+    {
+        self.count.map_or(0, |c| c.steps)
+    }
+
+    // The number of words of a rule, of which `fixed` are in none of its parts.
+    pub fn words(self, fixed: usize) -> usize
+        requires { (fixed ≤ 4) × Fits self }
+        ensures is { result ≡ words_of fixed self }
+        ensures few { result ≤ 2 ^ 21 }
+    {
+        let order = self.order.map_or(0, |o| ORDER_HEAD + o.arcs as usize);
+        fixed + order + self.count.map_or(0, |c| c.words)
+    }
 }

@@ -1,3 +1,2 @@
-mod PairLaws
 mod LimitLaws
-mod PlainLaws
+mod PairLaws

@@ -1,175 +1,101 @@
 // The limits of a joint sheet's rules and the number of their words, by a tally of them.
 #![tactic(auto)]
 
-ghost use Rattle.std.specs.Prelude.{◌≡◌, ◌+◌, ◌≤◌, ◌<◌, min};
-ghost use Rattle.join_pairs.specs.Sides.{sizes_of, FewPairs};
-ghost use Rattle.join_alike.specs.Alike.{pairs_in, joint_rules_in, Joinable, RowOf, row_in};
-ghost use Rattle.join_alike.specs.Spots.{rule_of};
-ghost use Rattle.join_extents.specs.Extents.{Small, joint_extent, fixed_words};
-ghost use Rattle.join_limits.specs.Limits.{tally_by, FewFor, TallyOf, Tallied, LimitOf};
+ghost use Rattle.std.specs.Prelude.{◌≡◌, ◌+◌, ◌*◌, ◌^◌, ◌≤◌};
 
-use join_alike::{Row, first_alike, next_alike, sizes_of, spot_of};
-use join_extents::{Extent, extent_at, fixed_words, joint_count, joint_order, words_of};
+use join_alike::{Row, RulePair, Sheets};
+use join_extents::{Extent, extent_at, fixed_words};
 use join_pairs::{Side, Sizes};
-use layout::{RULES, wide};
-use limits::{PLACE_RULES, PLACE_WORDS, first_over};
-use parts::at;
+use limits::{Limit, earlier, first_over};
 
 const MOST_RULES: usize = layout::MOST_RULES as usize;
 
-// the words of a rule of content that are in none of its parts
-const CONTENT_WORDS: usize = 2;
-
-// How many rules there are, the place of the first limit that they exceed, or that of words, and how many words they have.
+// How many rules there are, the first limit that one of them exceeds, and how many words they have.
 #[derive(Clone, Copy)]
 pub struct Tally {
     pub rules: usize,
-    pub place: usize,
+    pub over: Option<Limit>,
     pub words: usize,
+    pub ghost few: { words ≤ 2 ^ 21 * rules },
 }
 
-// The tally of the joint rule of two rules by their extents; `fixed` of its words are in none of its parts.
-fn tally_pair(x: Extent, y: Extent, fixed: usize, sizes: Sizes) -> Tally
-    requires { Small x × Small y × FewPairs (sizes_of sizes) × (fixed ≤ 4) }
-    ensures is { result ≡ tally_by fixed (joint_extent (sizes_of sizes) x y) }
-    ensures few { FewFor result }
-{
-    let o = x.order;
-    let u = y.order;
-    let c = x.count;
-    let d = y.count;
-    let order = joint_order(o, u, sizes);
-    let count = joint_count(c, d);
-    Tally {
-        rules: 1,
-        place: first_over(order.positions, order.arcs, count.steps),
-        words: words_of(fixed, order, count),
-    }
-}
+impl Tally {
+    ghost use Rattle.model.specs.Compose.{S, of_pairs};
+    ghost use Rattle.limits.specs.Limits.{earlier};
+    ghost use Rattle.join_pairs.specs.Sides.{sizes_of};
+    ghost use Rattle.join_alike.specs.Alike.{rule_of, pair_sizes, pair_joint, row_sizes, row_joint, sheets_sizes, sheets_joint};
+    ghost use Rattle.join_extents.specs.Extents.{Small, extent_of};
+    ghost use Rattle.join_limits.specs.Limits.{TallyOf, LimitOf};
 
-// The tally of some rules and of more.
-fn with_more(t: Tally, u: Tally) -> Tally
-    requires { (t.rules + u.rules ≤ 2048) × FewFor t × FewFor u }
-    ensures rules { result.rules ≡ t.rules + u.rules }
-    ensures place { result.place ≡ min t.place u.place }
-    ensures words { result.words ≡ t.words + u.words }
-{
-    let rules = t.rules + u.rules;
-    let words = t.words + u.words;
-    if t.place < u.place {
-        return Tally {
-            rules,
-            place: t.place,
-            words,
-        };
-    }
-    Tally {
-        rules,
-        place: u.place,
-        words,
-    }
-}
-
-// The tally of the joint rules of a rule of S of a text or a tag, which have no parts: as many as there are rules of T with its key.
-fn tally_plain(first: &[u32], second: &[u32], index: &[u32], row: Row) -> Tally
-    requires { RowOf first.now second.now index.now row × (2 < fixed_words (rule_of first.now row.rule)) }
-    ensures { TallyOf (pairs_in first.now second.now)
-        (row_in first.now second.now row.rule) result }
-{
-    let x = row.rule;
-    let mut rules = 0;
-    let mut j = first_alike(first, x, index);
-    while j < row.others {
-        rules += 1;
-        j = next_alike(index, j);
-    }
-    Tally {
-        rules,
-        place: PLACE_WORDS,
-        words: rules * fixed_words(first, x),
-    }
-}
-
-// The tally of the joint rules of a rule of S and the rules of T with its key, along their chain, by the extents of each.
-fn tally_contents(first: &[u32], second: &[u32], index: &[u32], row: Row) -> Tally
-    requires { RowOf first.now second.now index.now row }
-    ensures { TallyOf (pairs_in first.now second.now)
-        (row_in first.now second.now row.rule) result }
-{
-    let x = row.rule;
-    let sizes = row.sizes;
-    let n = row.others;
-    let own = extent_at(first, x, Side::S, sizes);
-    let mut tally = Tally {
-        rules: 0,
-        place: PLACE_WORDS,
-        words: 0,
-    };
-    let mut j = first_alike(first, x, index);
-    while j < n {
-        let other = extent_at(second, spot_of(index, j), Side::T, sizes);
-        tally = with_more(tally, tally_pair(own, other, fixed_words(first, x), sizes));
-        j = next_alike(index, j);
-    }
-    tally
-}
-
-// The tally of the joint rules of a rule of S and the rules of T with its key.
-fn tally_row(first: &[u32], second: &[u32], index: &[u32], row: Row) -> Tally
-    requires { RowOf first.now second.now index.now row }
-    ensures { TallyOf (pairs_in first.now second.now)
-        (row_in first.now second.now row.rule) result }
-{
-    let x = row.rule;
-    if CONTENT_WORDS < fixed_words(first, x) {
-        return tally_plain(first, second, index, row);
-    }
-    tally_contents(first, second, index, row)
-}
-
-// The tally of the joint rules of all rules of S, or of so many of them that there are too many joint rules.
-fn tally_rows(first: &[u32], firsts: &[u32], second: &[u32], seconds: &[u32]) -> Tally
-    requires { Joinable first.now firsts.now second.now seconds.now }
-    ensures { Tallied (pairs_in first.now second.now)
-        (joint_rules_in first.now second.now) result }
-{
-    let sizes = sizes_of(first, second);
-    let m = wide(at(first, RULES));
-    let others = wide(at(second, RULES));
-    let mut tally = Tally {
-        rules: 0,
-        place: PLACE_WORDS,
-        words: 0,
-    };
-    let mut i = 0;
-    while i < m {
-        if MOST_RULES < tally.rules {
-            return tally;
+    // That of no rules.
+    fn none() -> Tally
+        ensures rules { result.rules ≡ 0 }
+        ensures over { result.over ≡ None }
+        ensures words { result.words ≡ 0 }
+    {
+        Tally {
+            rules: 0,
+            over: None,
+            words: 0,
         }
-        let row = Row {
-            rule: spot_of(firsts, i),
-            sizes,
-            others,
-        };
-        tally = with_more(tally, tally_row(first, second, seconds, row));
-        i += 1;
     }
-    tally
-}
 
-// The first limit that the joint rules of two sheets exceed, and where they exceed none, how many rules and words there are.
-pub fn tally_rules(first: &[u32], firsts: &[u32], second: &[u32], seconds: &[u32]) -> Tally
-    requires { Joinable first.now firsts.now second.now seconds.now }
-    ensures { LimitOf (pairs_in first.now second.now)
-        (joint_rules_in first.now second.now) result }
-{
-    let tally = tally_rows(first, firsts, second, seconds);
-    if MOST_RULES < tally.rules {
-        return Tally {
-            rules: tally.rules,
-            place: PLACE_RULES,
-            words: tally.words,
-        };
+    // That of some rules and of more.
+    fn with(self, more: Tally) -> Tally
+        requires { self.rules + more.rules ≤ 2048 }
+        ensures rules { result.rules ≡ self.rules + more.rules }
+        ensures over { result.over ≡ earlier self.over more.over }
+        ensures words { result.words ≡ self.words + more.words }
+    {
+        Tally {
+            rules: self.rules + more.rules,
+            over: earlier(self.over, more.over),
+            words: self.words + more.words,
+        }
     }
-    tally
+
+    // That of the joint rule of two rules, of which S's has the extent `own`.
+    fn of_pair(pair: &RulePair, own: Extent, sizes: Sizes) -> Tally
+        requires sizes { sizes_of sizes ≡ pair_sizes pair.now }
+        requires own { own ≡ extent_of S (sizes_of sizes) (rule_of pair.now.s) }
+        requires small { Small own }
+        ensures { TallyOf (of_pairs (pair_sizes pair.now)) (pair_joint pair.now) result }
+    {
+        let joint = own.joint(extent_at(&pair.t, Side::T, sizes), sizes);
+        Tally {
+            rules: 1,
+            over: first_over(joint.positions(), joint.arcs(), joint.steps()),
+            words: joint.words(fixed_words(&pair.s)),
+        }
+    }
+
+    // That of the joint rules of a rule of S and the rules of T with its key.
+    fn of_row(row: &Row) -> Tally
+        ensures { TallyOf (of_pairs (row_sizes row.now)) (row_joint row.now) result }
+    {
+        let sizes = row.sizes();
+        let own = extent_at(&row.rule, Side::S, sizes);
+        let mut tally = Tally::none();
+        for pair in row.pairs() {
+            tally = tally.with(Tally::of_pair(&pair, own, sizes));
+        }
+        tally
+    }
+
+    // That of the joint rules of two sheets, or the first limit that they exceed.
+    pub fn of_sheets(sheets: &Sheets) -> Result<Tally, Limit>
+        ensures { LimitOf (of_pairs (sheets_sizes sheets.now)) (sheets_joint sheets.now) result }
+    {
+        let mut tally = Tally::none();
+        for k in 0..sheets.s.rules() {
+            tally = tally.with(Tally::of_row(&sheets.row(k)));
+            if MOST_RULES < tally.rules {
+                return Err(Limit::Rules);
+            }
+        }
+        match tally.over {
+            Some(limit) => Err(limit),
+            None => Ok(tally),
+        }
+    }
 }

@@ -2,23 +2,22 @@
 use mathlib.Core.Path.{◌≡◌, refl, sym, ap, ap₂, ◌∙◌}
 use mathlib.Core.List.Memᴰ
 use mathlib.Core.List.{List, [], ◌∷◌, ◌++◌, map, flat_map, map-id}
-use Prim.Native.Nat.{ℕ, ◌+◌, ◌*◌, ◌/◌, ◌%◌, ◌≤◌}
+use Prim.Native.Nat.{ℕ, ◌+◌, ◌-◌, ◌*◌, ◌/◌, ◌%◌, ◌≤◌}
 use native.Mathlib.Omega.{arith}
-use lib.ListN.{length, get_or, length-map}
-use lib.Seq.{slice}
+use lib.ListN.{length, get_or, take, drop, length-map}
+use Rattle.std.specs.Borrow.{Bor}
 use Rattle.model.specs.Lists.{◌∈◌, has, numbers, row, grid}
 use Rattle.model.specs.Sheet.{W, mask, set_words, Arc, arc_word, arc_of, Order, order_words, OrderInRange}
 use Rattle.model.specs.Compose.{pair, Side, Sizes, of_side, of_other, lift_arc, lift_order, pair_arc, pair_order}
 use Rattle.model.proofs.ListLaws.{length_from, map-append, length-grid}
-use Rattle.model.proofs.PartLaws.{word-is, words-from}
+use Rattle.model.proofs.PartLaws.{word-is, words_part}
 use Rattle.model.proofs.RuleWords.{order-room}
 use Rattle.model.proofs.Spans.{word-here, span_right}
-use Rattle.parts.specs.Lengths.{order_length}
 use Rattle.sets.specs.Sets.{pair_set}
-use Rattle.join_order.specs.Orders.{lifted_arc, lifted_grid, paired_arc, arcs_in, HeadOf, PairableArcs, paired_grid}
-use Rattle.join_order.specs.declared.OrderHead.{OrderHead}
+use Rattle.join_order.specs.Orders.{lifted_arc, lifted_grid, paired_arc, OrderOf}
+use Rattle.join_order.specs.declared.OrderPart.{OrderPart}
 use Rattle.model.specs.Spans.{OrderAt}
-use Rattle.join_pairs.specs.Sides.{FewPairs}
+use Rattle.join_pairs.specs.Pairs.{FewPairs}
 use Rattle.join_pairs.proofs.NumberLaws.{mul_le, few-S, few-T, few_side, few_other}
 use Rattle.sets.proofs.SetLaws.{few_pairs, pairs_mask}
 
@@ -53,87 +52,81 @@ arc_back few ranges a m =
 
 -- what an order part has, as the code reads it
 module _ {p a : ℕ} {s : List ℕ} {o : Order} (h : OrderAt p s a o) where
-  pub order-end : a + order_length s a ≤ length s
-  unfolding order_length
-  order-end = omega (arith, order-room h)
-
-  pub head_of : {positions set arcs long : ℕ} → positions ≡ get_or s a 0 → set ≡ get_or s (a + 1) 0 + get_or s (a + 1 + 1) 0 * W
-      → arcs ≡ get_or s (a + 3) 0 → long ≡ order_length s a
-      → HeadOf s o (record { positions = positions; accepting = set; arcs = arcs; from = a + 4; to = a + long })
-  unfolding order_words set_words order_length
-  head_of {set = set} {arcs} {long} ep es ea el =
+  pub order_found : {positions set long : ℕ} {arcs : Bor (List ℕ)} → positions ≡ get_or s a 0
+      → set ≡ get_or s (a + 1) 0 + get_or s (a + 1 + 1) 0 * W
+      → long ≡ get_or s (a + 3) 0 → arcs.now ≡ take (a + 4 + long - (a + 4)) (drop (a + 4) s)
+      → OrderOf o (record { positions = positions; accepting = set; arcs = arcs })
+  unfolding order_words set_words
+  order_found {set = set} {long} ep es el ea =
       let n = mask o.positions (has o.accepting) in
       let two : a + 1 + 1 ≡ a + 2 = omega arith in
       let low : get_or s (a + 1) 0 ≡ n % W = word-is h.there 1 (omega arith) in
       let high : get_or s (a + 1 + 1) 0 ≡ n / W = rw two (word-is h.there 2 (omega arith)) in
       let body = span_right (o.positions ∷ n % W ∷ n / W ∷ length o.arcs ∷ []) (map arc_word o.arcs) h.there in
-      let (room, count) = order-room h in
-      let last : a + long ≡ h.end = omega (arith, body.ends, length-map o.arcs arc_word) in
+      let last : a + 4 + long ≡ h.end = omega (arith, body.ends, length-map o.arcs arc_word, (order-room h).1, el) in
       record {
         positions = ep ∙ word-here h.there;
         accepting = omega arith;
-        arcs = ea ∙ count;
-        words = ap (λ (e : ℕ). slice (a + 4) e s) last ∙ words-from body (omega arith);
-        room = omega (arith, order-end);
+        arcs = ea ∙ ap (λ (e : ℕ). take (e - (a + 4)) (drop (a + 4) s)) last ∙ words_part body;
       }
+
+pub order_end : {s : List ℕ} {a : ℕ} → (p : ℕ) × ((o : Order) × OrderAt p s a o) → a + 4 + get_or s (a + 3) 0 ≤ length s
+order_end (p, (o, h)) = omega (arith, order-room h)
 
 -- ---- lifted and paired order parts
 
-module _ (side : Side) {n : Sizes} (few : FewPairs n) {s : List ℕ} {o : Order} {x : OrderHead} (h : HeadOf s o x)
+module _ {o : Order} {x : OrderPart} (h : OrderOf o x) where
+  pub arcs-long : length x.arcs.now ≡ length o.arcs
+  arcs-long = rw h.arcs (length-map o.arcs arc_word)
+
+  pub few_arcs : {p : ℕ} → OrderInRange p o → length x.arcs.now ≤ 1024
+  few_arcs ranges = rw arcs-long ranges.few_arcs
+
+module _ (side : Side) {n : Sizes} (few : FewPairs n) {o : Order} {x : OrderPart} (h : OrderOf o x)
     (ranges : OrderInRange (of_side side n) o) {other : ℕ} (eo : other ≡ of_other side n) where
   -- the arcs are few, and so are the lifted ones
-  pub lifted_few : x.arcs * other ≤ 1024 * 64
-  lifted_few = rw (h.arcs, eo) (mul_le (length o.arcs) (of_other side n) ranges.few_arcs (few_other few side))
+  pub lifted_few : length x.arcs.now * other ≤ 1024 * 64
+  lifted_few = rw (arcs-long h, eo) (mul_le (length o.arcs) (of_other side n) ranges.few_arcs (few_other few side))
 
-  pub lifted_order-words : (x.positions ∷ x.accepting % W ∷ x.accepting / W ∷ x.arcs * other ∷ [])
-      ++ lifted_grid side n (arcs_in s x) ≡ order_words (lift_order side n o)
+  pub lifted_order-words : (x.positions ∷ x.accepting % W ∷ x.accepting / W ∷ length x.arcs.now * other ∷ [])
+      ++ lifted_grid side n x.arcs.now ≡ order_words (lift_order side n o)
   unfolding order_words lift_order set_words
   lifted_order-words =
       let others = numbers (of_other side n) in
-      let same : map arc_word (grid (lift_arc side n) o.arcs others) ≡ lifted_grid side n (arcs_in s x)
+      let same : map arc_word (grid (lift_arc side n) o.arcs others) ≡ lifted_grid side n x.arcs.now
       = map-grid (lift_arc side n) arc_word arc_word (λ (i : ℕ). i) (lifted_arc side n) o.arcs others
       (λ a i m _. ap (λ (b : Arc). arc_word (lift_arc side n b i)) (sym (arc_back (few_side few side) ranges a m)))
-      ∙ ap₂ (grid (lifted_arc side n)) (sym h.words) (map-id others) in
-      let count : x.arcs * other ≡ length (grid (lift_arc side n) o.arcs others) = rw (h.arcs, eo) (simp (length-grid, length_from)) in
+      ∙ ap₂ (grid (lifted_arc side n)) (sym h.arcs) (map-id others) in
+      let count : length x.arcs.now * other ≡ length (grid (lift_arc side n) o.arcs others)
+      = rw (arcs-long h, eo) (simp (length-grid, length_from)) in
       rw (h.positions, h.accepting, count, same)
 
--- the pairs of positions and of arcs are few, and the arcs can be paired
-pub record PairsFit (s t : List ℕ) (x y : OrderHead) (p : ℕ) : Type 0 where
-  pub positions : x.positions * y.positions ≤ 64
-  pub arcs : x.arcs * y.arcs ≤ 1024 * 1024
-  pub pairable : PairableArcs s t (record { s = x; t = y }) p
+module _ {o u : Order} {x y : OrderPart} (h : OrderOf o x) (k : OrderOf u y) where
+  -- the pairs of arcs and of positions are few
+  pub paired_few : {p q : ℕ} → OrderInRange p o → OrderInRange q u → length x.arcs.now * length y.arcs.now ≤ 1024 * 1024
+  paired_few in_S in_T = rw (arcs-long h, arcs-long k) (mul_le (length o.arcs) (length u.arcs) in_S.few_arcs in_T.few_arcs)
 
-module _ {n : Sizes} (few : FewPairs n) {s t : List ℕ} {o u : Order} {x y : OrderHead} (h : HeadOf s o x) (k : HeadOf t u y)
-    (in_S : OrderInRange n.of_S o) (in_T : OrderInRange n.of_T u) where
-  pub pairs_fit : o.positions * u.positions ≤ 64 → PairsFit s t x y n.of_T
-  pairs_fit fit = record {
-    positions = rw (h.positions, k.positions) fit;
-    arcs = rw (h.arcs, k.arcs) (mul_le (length o.arcs) (length u.arcs) in_S.few_arcs in_T.few_arcs);
-    pairable = record {
-      room_S = h.room;
-      room_T = k.room;
-      few_positions = rw k.positions in_T.few_positions;
-      few_states = few-T few;
-    };
-  }
+  pub paired_positions : o.positions * u.positions ≤ 64 → x.positions * y.positions ≤ 64
+  paired_positions fit = rw (h.positions, k.positions) fit
 
-  pub paired_order-words : PairsFit s t x y n.of_T → {set : ℕ}
+  pub paired_order-words : {n : Sizes} → FewPairs n → OrderInRange n.of_S o → OrderInRange n.of_T u
+      → x.positions * y.positions ≤ 64 → {set : ℕ}
       → set ≡ pair_set x.positions y.positions x.accepting y.accepting
-      → (x.positions * y.positions ∷ set % W ∷ set / W ∷ x.arcs * y.arcs ∷ [])
-      ++ paired_grid n.of_T s t (record { s = x; t = y }) ≡ order_words (pair_order n o u)
+      → (x.positions * y.positions ∷ set % W ∷ set / W ∷ length x.arcs.now * length y.arcs.now ∷ [])
+      ++ grid (paired_arc y.positions n.of_T) x.arcs.now y.arcs.now ≡ order_words (pair_order n o u)
   unfolding order_words pair_order set_words
-  paired_order-words fit {set} es =
+  paired_order-words {n} few in_S in_T fit {set} es =
       let m = u.positions in
       let f = pair_arc m n.of_T in
-      let same : map arc_word (grid f o.arcs u.arcs) ≡ paired_grid n.of_T s t (record { s = x; t = y })
+      let same : map arc_word (grid f o.arcs u.arcs) ≡ grid (paired_arc y.positions n.of_T) x.arcs.now y.arcs.now
       = map-grid f arc_word arc_word arc_word (paired_arc m n.of_T) o.arcs u.arcs
       (λ a b i j. ap₂ (λ (c d : Arc). arc_word (f c d)) (sym (arc_back (few-S few) in_S a i)) (sym (arc_back (few-T few) in_T b j)))
       ∙ ap (λ (z : ℕ). grid (paired_arc z n.of_T) (map arc_word o.arcs) (map arc_word u.arcs)) (sym k.positions)
-      ∙ ap₂ (grid (paired_arc y.positions n.of_T)) (sym h.words) (sym k.words) in
-      let count : x.arcs * y.arcs ≡ length (grid f o.arcs u.arcs) = rw (h.arcs, k.arcs, length-grid) in
+      ∙ ap₂ (grid (paired_arc y.positions n.of_T)) (sym h.arcs) (sym k.arcs) in
+      let count : length x.arcs.now * length y.arcs.now ≡ length (grid f o.arcs u.arcs) = rw (arcs-long h, arcs-long k, length-grid) in
       let places : x.positions * y.positions ≡ o.positions * m = ap₂ ◌*◌ h.positions k.positions in
       let marks : set ≡ mask (o.positions * m) (has (grid (pair m) o.accepting u.accepting))
-      = es ∙ few_pairs x.positions y.positions x.accepting y.accepting fit.positions
+      = es ∙ few_pairs x.positions y.positions x.accepting y.accepting fit
       ∙ rw (h.positions, k.positions, h.accepting, k.accepting)
       (pairs_mask in_S.accepting in_T.accepting in_T.some_positions) in
       rw (places, marks, count, same)

@@ -1,204 +1,123 @@
 // Order parts of joint rules: one alone lifted to pairs of states, and two paired.
 #![tactic(auto)]
 
-ghost use Rattle.std.specs.Prelude.{◌≡◌, [], ◌∷◌, ℕ, ◌+◌, ◌*◌, ◌/◌, ◌%◌, ◌^◌, ◌≤◌, length};
+ghost use Rattle.std.specs.Prelude.{◌≡◌, [], ◌∷◌, ℕ, ◌+◌, ◌*◌, ◌/◌, ◌%◌, ◌^◌, ◌≤◌};
 ghost use Rattle.model.specs.Lists.{row};
 ghost use Rattle.model.specs.Sheet.{Order, W};
 ghost use Rattle.model.specs.Compose.{of_side};
 ghost use Rattle.model.specs.Spans.{OrderAt};
 ghost use Rattle.page.specs.Page.{Writes};
-ghost use Rattle.join_pairs.specs.Sides.{side_of, sizes_of, FewPairs};
-ghost use Rattle.join_order.specs.Orders.{lifted_row, lifted_grid, paired_arc, SomeOrder, PairableOrders, LiftsOrder, PairsOrders};
-ghost use Rattle.join_order.specs.Orders.{arcs_in, HeadOf, PairableArcs, paired_grid};
+ghost use Rattle.join_pairs.specs.Sides.{side_of, sizes_of};
+ghost use Rattle.join_order.specs.Orders.{lifted_row, paired_arc, SomeOrder, PairableOrders, LiftsOrder, PairsOrders, OrderOf};
 
-use join_pairs::{Places, Side, Sizes, beside, of_other, pair};
-use page::{WORD, copy, put};
+use bits::Arc;
+use join_pairs::{Both, Part, Side, Sizes, pair};
+use page::Page;
 use sets::pair_set;
-
-// The fields of an arc word are a byte each: from the top the position it leaves, the state it reads, the position it enters.
-const BYTE: u32 = 0x100;
-
-const TWO_BYTES: u32 = 0x1_0000;
 
 // the words before the arcs: the number of positions, two words of accepting positions, the number of arcs
 const HEAD: usize = 4;
 
-fn arc_word(leaves: u32, reads: u32, enters: u32) -> u32
-    requires { (leaves ≤ 16575) × (reads ≤ 16575) × (enters ≤ 16575) }
-    ensures { result ≡ leaves * 2 ^ 16 + reads * 2 ^ 8 + enters }
+// The word of an arc: from the top the position it leaves, the state it reads, the position it enters, a byte each. A conversion of
+// `Arc` itself could ask for no such bounds.
+fn arc_word(arc: Arc) -> u32
+    requires { (arc.leaves ≤ 16575) × (arc.reads ≤ 16575) × (arc.enters ≤ 16575) }
+    ensures { result ≡ arc.leaves * 2 ^ 16 + arc.reads * 2 ^ 8 + arc.enters }
 {
-    leaves * TWO_BYTES + reads * BYTE + enters
+    (arc.leaves << 16) + (arc.reads << 8) + arc.enters
 }
 
 // Writes an arc once for each state of the other sheet, reading its state beside that one.
-fn lift_row(w: u32, side: Side, sizes: Sizes, out: &mut [u32], at: usize) -> usize
-    requires { FewPairs (sizes_of sizes) }
-    ensures { Writes out.old at (lifted_row (side_of side) (sizes_of sizes) w) out.new result }
+fn lift_row(word: u32, side: Side, sizes: Sizes, page: &mut Page)
+    ensures { Writes page.old (lifted_row (side_of side) (sizes_of sizes) word) page.new }
 {
-    let n = of_other(side, sizes);
-    let arc = bits::arc_of(w);
-    let mut next = at;
-    let mut other = 0;
-    while other < n {
-        let reads = beside(side, sizes.t, arc.reads, other);
-        next = put(out, next, arc_word(arc.leaves, reads, arc.enters));
-        other += 1;
+    let arc = Arc::from(word);
+    for other in 0..sizes.other(side) {
+        let reads = sizes.beside(side, arc.reads, other);
+        page.put(arc_word(Arc { reads, ..arc }));
     }
-    next
 }
 
-// What an order part has: how many positions, which of them accept, how many arcs, and from where to where the arcs are.
+// An arc of S and an arc of T in one, where T's part has `m` positions.
+fn pair_arc(v: u32, w: u32, m: u32, sizes: Sizes) -> u32
+    requires { m ≤ 64 }
+    ensures { result ≡ paired_arc m sizes.t v w }
+{
+    let a = Arc::from(v);
+    let b = Arc::from(w);
+    arc_word(Arc {
+        leaves: pair(m, a.leaves, b.leaves),
+        reads: sizes.pair(a.reads, b.reads),
+        enters: pair(m, a.enters, b.enters),
+    })
+}
+
+// Writes an arc of S paired with each arc of T's part, which has `m` positions.
+fn pair_row(v: u32, arcs: &[u32], m: u32, sizes: Sizes, page: &mut Page)
+    requires { m ≤ 64 }
+    ensures { Writes page.old (row (paired_arc m sizes.t) arcs.now v) page.new }
+{
+    for w in arcs {
+        page.put(pair_arc(v, *w, m, sizes));
+    }
+}
+
+// What an order part has: how many positions, which of them accept, and the words of its arcs.
 #[derive(Clone, Copy)]
-pub struct OrderHead {
-    pub positions: u32,
-    pub accepting: u64,
-    pub arcs: u32,
-    pub from: usize,
-    pub to: usize,
+struct OrderPart<'a> {
+    positions: u32,
+    accepting: u64,
+    arcs: &'a [u32],
 }
 
-// Writes the arcs of an order part, lifted.
-fn lift_arcs(
-    words: &[u32],
-    head: OrderHead,
-    side: Side,
-    sizes: Sizes,
-    out: &mut [u32],
-    at: usize,
-) -> usize
-    requires { (head.to ≤ length words.now) × FewPairs (sizes_of sizes) }
-    ensures { Writes out.old at (lifted_grid (side_of side) (sizes_of sizes) (arcs_in words.now head))
-        out.new result }
+// The order part that a part is.
+#[tactic(auto, using(crate::proofs::OrderWords::order_end))]
+fn order_of(part: Part) -> OrderPart
+    requires { (p : ℕ) × SomeOrder p part }
+    ensures { (p : ℕ) (o : Order) → OrderAt p part.entry.words.now part.entry.at o → OrderOf o result }
 {
-    let mut next = at;
-    let mut i = head.from;
-    while i < head.to {
-        next = lift_row(parts::at(words, i), side, sizes, out, next);
-        i += 1;
-    }
-    next
-}
-
-// An arc of S and an arc of T in one, where T's part has `m` positions and T `p` states.
-fn pair_arc(v: u32, w: u32, m: u32, p: u32) -> u32
-    requires { (m ≤ 64) × (p ≤ 64) }
-    ensures { result ≡ paired_arc m p v w }
-{
-    let a = bits::arc_of(v);
-    let b = bits::arc_of(w);
-    arc_word(
-        pair(m, a.leaves, b.leaves),
-        pair(p, a.reads, b.reads),
-        pair(m, a.enters, b.enters),
-    )
-}
-
-// Writes an arc of S paired with each arc of T's part, where T has `p` states.
-fn pair_row(v: u32, words: &[u32], head: OrderHead, p: u32, out: &mut [u32], at: usize) -> usize
-    requires { (head.to ≤ length words.now) × (head.positions ≤ 64) × (p ≤ 64) }
-    ensures { Writes out.old at (row (paired_arc head.positions p) (arcs_in words.now head) v)
-        out.new result }
-{
-    let mut next = at;
-    let mut i = head.from;
-    while i < head.to {
-        next = put(out, next, pair_arc(v, words[i], head.positions, p));
-        i += 1;
-    }
-    next
-}
-
-// An order part of S and one of T.
-#[derive(Clone, Copy)]
-struct Heads {
-    s: OrderHead,
-    t: OrderHead,
-}
-
-// Writes all pairs of an arc of S and an arc of T, S's order outermost, where T has `p` states.
-fn pair_arcs(
-    first: &[u32],
-    second: &[u32],
-    heads: Heads,
-    p: u32,
-    out: &mut [u32],
-    at: usize,
-) -> usize
-    requires { PairableArcs first.now second.now heads p }
-    ensures { Writes out.old at (paired_grid p first.now second.now heads) out.new result }
-{
-    let mut next = at;
-    let mut i = heads.s.from;
-    while i < heads.s.to {
-        next = pair_row(parts::at(first, i), second, heads.t, p, out, next);
-        i += 1;
-    }
-    next
-}
-
-// The order part at `a`.
-pub fn order_head(words: &[u32], a: usize) -> OrderHead
-    requires { (p : ℕ) × SomeOrder p words.now a }
-    ensures { (p : ℕ) (o : Order) → OrderAt p words.now a o → HeadOf words.now o result }
-{
-    OrderHead {
-        positions: parts::at(words, a),
-        accepting: parts::set_at(words, a + 1),
-        arcs: parts::field(words, a, 3),
-        from: a + HEAD,
-        to: a + parts::order_length(words, a),
+    let Part { words, at } = part;
+    let arcs = at + HEAD;
+    OrderPart {
+        positions: parts::at(words, at),
+        accepting: parts::set_at(words, at + 1),
+        arcs: &words[arcs..arcs + parts::field(words, at, 3) as usize],
     }
 }
 
 // Writes what comes before the arcs of an order part.
-fn put_head(positions: u32, accepting: u64, arcs: u32, out: &mut [u32], at: usize) -> usize
-    ensures { Writes out.old at (positions ∷ accepting % W ∷ accepting / W ∷ arcs ∷ []) out.new result }
+fn put_head(positions: u32, accepting: u64, arcs: u32, page: &mut Page)
+    ensures { Writes page.old (positions ∷ accepting % W ∷ accepting / W ∷ arcs ∷ []) page.new }
 {
-    let low = (accepting % WORD) as u32;
-    let high = (accepting / WORD) as u32;
-    copy(&[positions, low, high, arcs], 0, 4, out, at)
+    page.put(positions);
+    page.put_set(accepting);
+    page.put(arcs);
 }
 
-// Writes the order part at `a`, lifted.
-pub fn lift_order(
-    words: &[u32],
-    a: usize,
-    side: Side,
-    sizes: Sizes,
-    out: &mut [u32],
-    at: usize,
-) -> usize
-    requires { FewPairs (sizes_of sizes) × SomeOrder (of_side (side_of side) (sizes_of sizes)) words.now a }
-    ensures { LiftsOrder side sizes words.now a (λ ws. Writes out.old at ws out.new result) }
+// Writes an order part, lifted.
+pub fn lift_order(part: Part, side: Side, sizes: Sizes, page: &mut Page)
+    requires { SomeOrder (of_side (side_of side) (sizes_of sizes)) part }
+    ensures { LiftsOrder side sizes part.entry (λ ws. Writes page.old ws page.new) }
 {
-    let head = order_head(words, a);
-    let arcs = head.arcs * of_other(side, sizes);
-    let begun = put_head(head.positions, head.accepting, arcs, out, at);
-    lift_arcs(words, head, side, sizes, out, begun)
+    let order = order_of(part);
+    let arcs = order.arcs.len() as u32 * sizes.other(side);
+    put_head(order.positions, order.accepting, arcs, page);
+    for arc in order.arcs {
+        lift_row(*arc, side, sizes, page);
+    }
 }
 
-// Writes the order part of all pairs of positions and of arcs, of the order parts at their places in S and T.
-pub fn pair_order(
-    first: &[u32],
-    second: &[u32],
-    places: Places,
-    sizes: Sizes,
-    out: &mut [u32],
-    at: usize,
-) -> usize
-    requires { FewPairs (sizes_of sizes) × PairableOrders sizes first.now second.now places }
-    ensures { PairsOrders sizes first.now second.now places
-        (λ ws. Writes out.old at ws out.new result) }
+// Writes the order part of all pairs of positions and of arcs of two order parts, S's order outermost.
+pub fn pair_order(parts: Both<Part>, sizes: Sizes, page: &mut Page)
+    requires { PairableOrders sizes parts }
+    ensures { PairsOrders sizes parts.entry (λ ws. Writes page.old ws page.new) }
 {
-    let s = order_head(first, places.s);
-    let t = order_head(second, places.t);
+    let s = order_of(parts.s);
+    let t = order_of(parts.t);
     let accepting = pair_set(s.positions, t.positions, s.accepting, t.accepting);
-    let begun = put_head(
-        s.positions * t.positions,
-        accepting,
-        s.arcs * t.arcs,
-        out,
-        at,
-    );
-    pair_arcs(first, second, Heads { s, t }, sizes.t, out, begun)
+    let arcs = s.arcs.len() as u32 * t.arcs.len() as u32;
+    put_head(s.positions * t.positions, accepting, arcs, page);
+    for v in s.arcs {
+        pair_row(*v, t.arcs, t.positions, sizes, page);
+    }
 }

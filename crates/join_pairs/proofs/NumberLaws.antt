@@ -3,7 +3,7 @@ use Prim.Native.Nat.{ℕ, ◌*◌, ◌≤◌}
 use native.Mathlib.Nat.{le_trans, mul-le-mul_left, mul-le-mul_right}
 use native.Mathlib.Omega.{arith}
 use Rattle.model.specs.Compose.{Side, S, T, Sizes, of_side, of_other}
-use Rattle.join_pairs.specs.Sides.{FewPairs}
+use Rattle.join_pairs.specs.Pairs.{FewPairs}
 
 pub mul_le : (a b : ℕ) {x y : ℕ} → a ≤ x → b ≤ y → a * b ≤ x * y
 mul_le a b {x} {y} h k = le_trans (mul-le-mul_right b h) (mul-le-mul_left x k)

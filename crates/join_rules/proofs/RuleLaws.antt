@@ -1,31 +1,37 @@
 -- The words of the joint rules of texts and of tags, and of the rows of joint rules.
-use mathlib.Core.Path.{◌≡◌, sym, ap, ◌∙◌}
+use mathlib.Core.Path.{◌≡◌, refl, sym, ap, ap₂, subst, ◌∙◌}
+use mathlib.Core.List.Memᴰ
 use mathlib.Core.List.{List, [], ◌∷◌, ◌++◌, flat_map}
 use Prim.Native.Nat.{ℕ, ◌+◌, ◌/◌, ◌^◌, ◌≤◌, ◌<◌}
 use native.Mathlib.Omega.{arith}
 use lib.ListN.{length, get_or}
-use lib.Seq.{slice}
 use Rattle.model.specs.Sheet.{Rule, rule_words}
 use Rattle.model.specs.Spans.{RuleAt}
-use Rattle.model.specs.Index.{sheet_in}
+use Rattle.model.specs.Index.{sheet_in, rules_in}
+use Rattle.model.specs.Lists.{◌∈◌}
 use Rattle.model.specs.Compose as model
 use Rattle.model.specs.Compose.{pair, of_pairs}
 use Rattle.model.proofs.ListLaws.{each_append}
 use Rattle.model.proofs.PartLaws.{word-within, word-is}
 use Rattle.model.proofs.RuleWords.{as_text, as_tag, text_key, tag_key}
 use Rattle.page.specs.Page.{Writes}
-use Rattle.page.proofs.PageLaws.{as_words, Left, more}
-use Rattle.join_pairs.specs.declared.Sizes.{Sizes}
+use Rattle.page.specs.declared.Page.{Page}
+use Rattle.page.proofs.PageLaws.{as_words, Left, begun, more, done}
+use Rattle.join_pairs.proofs.NumberLaws.{few-S, few-T}
 use Rattle.join_alike.specs.declared.Spot.{Spot}
+use Rattle.join_alike.specs.declared.IndexedSheet.{IndexedSheet}
 use Rattle.join_alike.specs.declared.RulePair.{RulePair}
 use Rattle.join_alike.specs.declared.Row.{Row}
-use Rattle.join_alike.specs.Spots.{SpotIn}
-use Rattle.join_alike.specs.Alike.{sizes_in, joint_rules_in, row_in, Alike, pair_in, FewPositions}
-use Rattle.join_alike.proofs.AlikeLaws.{JointOf, texts, tags, contents, alike_paired, InRow, row_from, row_next, row_among, row_done}
-use Rattle.join_alike.proofs.AlikeLaws.{InRows, rows_from, rows_next, rows_among, rows_done}
+use Rattle.join_alike.specs.declared.Pairs.{Pairs}
+use Rattle.join_alike.specs.declared.Sheets.{Sheets}
+use Rattle.join_alike.specs.Joins.{sizes_in}
+use Rattle.join_alike.specs.Alike.{rule_of, pair_sizes, pair_joint, row_sizes, row_joint, joint_left, PairNext, sheets_sizes, sheets_joint}
+use Rattle.join_alike.specs.Alike.{FewPositions}
+use Rattle.join_alike.proofs.SpotLaws.{stands}
+use Rattle.join_alike.proofs.AlikeLaws.{JointOf, texts, tags, contents, alike_paired, rows_from, rows_next, rows_done}
 use Rattle.join_contents.specs.Parts.{pair_words}
-use Rattle.join_contents.proofs.ContentLaws.{one_rule, states-S, states-T, few_states}
-use Rattle.join_rules.specs.Written.{state_in, StatesAt, row_words}
+use Rattle.join_contents.proofs.ContentLaws.{one_rule}
+use Rattle.join_rules.specs.Written.{word_of, state_in, StatesAt, row_words, words_left, joint_words}
 
 -- ---- texts and tags
 
@@ -69,74 +75,76 @@ module _ {n : model.Sizes} {p q a b : ℕ} {s t : List ℕ} where
   )
   tag_rule (contents o u φ ψ s t) h i e = let (g, c, q, j) = as_tag _ h e in let z : ◌≡◌ {A = ℕ} 0 1 = cc j in absurd (omega arith)
 
-module _ {u v : List ℕ} {n : Sizes} {r : RulePair} (h : Alike u v n r) where
+module _ (r : RulePair) where
   -- the joint states are small
-  small : (k : ℕ) → TwoStates (sheet_in u).states (sheet_in v).states r.s.at r.t.at u v k → StatesAt u v n r k
-  small k ((i, s), (j, t)) = record {
-    few = (few_states h).1;
-    first = (i, omega (arith, few_states h, states-S h));
-    second = (j, omega (arith, few_states h, states-T h));
-  }
+  small : (k : ℕ) → TwoStates (sheet_in r.s.sheet.words.now).states (sheet_in r.t.sheet.words.now).states r.s.at r.t.at
+      r.s.sheet.words.now r.t.sheet.words.now k
+      → StatesAt r k
+  small k ((_, s), (_, t)) = record { first = omega (arith, few-S r.few); second = omega (arith, few-T r.few) }
 
-  module _ (e : get_or u r.s.at 0 ≡ 33) where
-    pub text_states : StatesAt u v n r 2
-    text_states = small 2 (text_rule (alike_paired h).1 h.first.begins h.second.begins e).1
+  module _ (e : get_or r.s.sheet.words.now r.s.at 0 ≡ 33) where
+    pub text_states : StatesAt r 2
+    text_states = small 2 (text_rule (alike_paired r).1 (stands r.s).begins (stands r.t).begins e).1
 
-    pub text_written : {l l' : List ℕ} {i i' k q : ℕ} → k ≡ get_or u (r.s.at + 1) 0 → q ≡ state_in u v n r 2
-        → Writes l i (slice 0 3 (33 ∷ k ∷ q ∷ [])) l' i' → Writes l i (pair_words u v n r) l' i'
-    text_written ek eq =
-        let (z, w) = alike_paired h in
-        as_words (rw (ek, eq) (text_rule w h.first.begins h.second.begins e).0 ∙ one_rule w)
+    pub text_words : {k q : ℕ} → k ≡ word_of r.s 1 → q ≡ state_in r 2 → 33 ∷ k ∷ q ∷ [] ≡ pair_words r
+    text_words ek eq =
+        let (z, w) = alike_paired r in
+        rw (ek, eq) (text_rule w (stands r.s).begins (stands r.t).begins e).0 ∙ one_rule w
 
-  module _ (e : get_or u r.s.at 0 ≡ 38) where
-    pub tag_states : StatesAt u v n r 2 × StatesAt u v n r 3
+  module _ (e : get_or r.s.sheet.words.now r.s.at 0 ≡ 38) where
+    pub tag_states : StatesAt r 2 × StatesAt r 3
     tag_states =
-        let (_, inner, target) = tag_rule (alike_paired h).1 h.first.begins h.second.begins e in
+        let (_, inner, target) = tag_rule (alike_paired r).1 (stands r.s).begins (stands r.t).begins e in
         (small 2 inner, small 3 target)
 
-    pub tag_written : {l l' : List ℕ} {i i' g j q : ℕ} → g ≡ get_or u (r.s.at + 1) 0 → j ≡ state_in u v n r 2 → q ≡ state_in u v n r 3
-        → Writes l i (slice 0 4 (38 ∷ g ∷ j ∷ q ∷ [])) l' i' → Writes l i (pair_words u v n r) l' i'
-    tag_written eg ej eq =
-        let (z, w) = alike_paired h in
-        as_words (rw (eg, ej, eq) (tag_rule w h.first.begins h.second.begins e).0 ∙ one_rule w)
+    pub tag_words : {g j q : ℕ} → g ≡ word_of r.s 1 → j ≡ state_in r 2 → q ≡ state_in r 3 → 38 ∷ g ∷ j ∷ q ∷ [] ≡ pair_words r
+    tag_words eg ej eq =
+        let (z, w) = alike_paired r in
+        rw (eg, ej, eq) (tag_rule w (stands r.s).begins (stands r.t).begins e).0 ∙ one_rule w
+
+-- ---- few positions, in two parts of a list
+
+in-first : {z : Rule} (l m : List Rule) → z ∈ l → z ∈ (l ++ m)
+in-first l m (Memᴰ.head e) = Memᴰ.head e
+in-first (x ∷ l) m (Memᴰ.tail k) = Memᴰ.tail (in-first l m k)
+
+in-second : {z : Rule} (l m : List Rule) → z ∈ m → z ∈ (l ++ m)
+in-second [] m k = k
+in-second (x ∷ l) m k = Memᴰ.tail (in-second l m k)
+
+pub few_parts : {all : List Rule} (l m : List Rule) → all ≡ l ++ m → FewPositions all → FewPositions l × FewPositions m
+few_parts l m e few = (
+  λ z k. few z (subst (λ (rs : List Rule). z ∈ rs) (sym e) (in-first l m k)),
+  λ z k. few z (subst (λ (rs : List Rule). z ∈ rs) (sym e) (in-second l m k)),
+)
 
 -- ---- rows
 
-module _ {u v index : List ℕ} {r : Row} {j : ℕ} (h : InRow u v index r j) where
-  abbrev words : Rule → List ℕ
-  words = rule_words (of_pairs (sizes_in u v))
+-- the next pair of a row
+module _ {r : Row} {p q : Pairs} {x : RulePair} (e : p.row ≡ r) (h : PairNext p x q) where
+  pub pair_sizes-row : pair_sizes x ≡ row_sizes r
+  pair_sizes-row =
+      ap₂ sizes_in (ap (λ (y : Spot). y.sheet.words.now) (h.rule ∙ ap (λ (z : Row). z.rule) e))
+      (ap (λ (y : IndexedSheet). y.words.now) (h.other ∙ ap (λ (z : Row). z.others) e))
 
-  module _ (l : j < r.others) {y : Spot} (e : SpotIn index j y) where
-    -- the rules from the next of the chain on
-    pub row_written : {i : ℕ} → i ≡ get_or index (67 + j) 0 / 2 ^ 16 → {l₀ ws l l' : List ℕ} {i₀ k k' : ℕ}
-        → Left l₀ i₀ ws l k (flat_map words (row_from u v r.rule j))
-        → Writes l k (pair_words u v r.sizes (record { s = r.rule; t = y })) l' k'
-        → InRow u v index r i × Left l₀ i₀ ws l' k' (flat_map words (row_from u v r.rule i))
-    row_written {i} f left w =
-        let (walk, next, _) = row_next h l e f in
-        let made = pair_in u v r.sizes (record { s = r.rule; t = y }) in
-        let rest = flat_map words (row_from u v r.rule i) in
-        let all = ap (flat_map words) next ∙ each_append words made (row_from u v r.rule i)
-        ∙ ap (λ (k : model.Sizes). flat_map (rule_words (of_pairs k)) made ++ rest) (sym h.row.sizes) in
-        (walk, more left all w)
+  pub pair_written : {p₀ g g' : Page} → Left p₀ (row_words r) g (flat_map (rule_words (of_pairs (row_sizes r))) (joint_left p))
+      → Writes g (pair_words x) g' → Left p₀ (row_words r) g' (flat_map (rule_words (of_pairs (row_sizes r))) (joint_left q))
+  pair_written left w =
+      let words = rule_words (of_pairs (row_sizes r)) in
+      let made = ap (λ (n : model.Sizes). flat_map (rule_words (of_pairs n)) (pair_joint x)) pair_sizes-row in
+      more left (ap (flat_map words) h.joint ∙ each_append words (pair_joint x) (joint_left q)) (as_words made w)
 
-    pub pair-few : FewPositions (row_in u v r.rule) → FewPositions (pair_in u v r.sizes (record { s = r.rule; t = y }))
-    pair-few few z k = few z (row_among h l e k)
+pub words_none : (p : ℕ) {rs : List Rule} → rs ≡ [] → flat_map (rule_words p) rs ≡ []
+unfolding flat_map
+words_none p e = ap (flat_map (rule_words p)) e
 
-  pub row-words_done : r.others ≤ j → flat_map words (row_from u v r.rule j) ≡ []
-  unfolding flat_map
-  row-words_done l = ap (flat_map words) (row_done h l)
-
-module _ {u i v j : List ℕ} {n : Sizes} {m o k : ℕ} (h : InRows u i v j n m o) where
-  pub rows_words-next : k < m → {x : Spot} → SpotIn i k x → flat_map (rule_words (of_pairs (sizes_in u v))) (rows_from u v k)
-      ≡ row_words u v x ++ flat_map (rule_words (of_pairs (sizes_in u v))) (rows_from u v (k + 1))
-  rows_words-next l {x} e =
-      let words = rule_words (of_pairs (sizes_in u v)) in
-      ap (flat_map words) (rows_next h l e) ∙ each_append words (row_in u v x) (rows_from u v (k + 1))
-
-  pub rows_words_done : m ≤ k → flat_map (rule_words (of_pairs (sizes_in u v))) (rows_from u v k) ≡ []
-  unfolding flat_map
-  rows_words_done l = ap (flat_map (rule_words (of_pairs (sizes_in u v)))) (rows_done h l)
-
-  pub row-few : k < m → {x : Spot} → SpotIn i k x → FewPositions (joint_rules_in u v) → FewPositions (row_in u v x)
-  row-few l e few z n = few z (rows_among h l e n)
+-- the row of S's rule k
+pub row_written : (b : Sheets) {k : ℕ} (r : Row) → k < length (rules_in b.s.words.now) → r.others ≡ b.t → r.rule.sheet ≡ b.s
+    → r.rule.rule ≡ k → {p₀ g g' : Page} → Left p₀ (joint_words b) g (flat_map (rule_words (of_pairs (sheets_sizes b))) (rows_from b k))
+    → Writes g (row_words r) g'
+    → Left p₀ (joint_words b) g' (flat_map (rule_words (of_pairs (sheets_sizes b))) (rows_from b (k + 1)))
+row_written b {k} r l eo es ek left w =
+    let (next, same) = rows_next b r l eo es ek in
+    let words = rule_words (of_pairs (sheets_sizes b)) in
+    let made = ap (λ (n : model.Sizes). flat_map (rule_words (of_pairs n)) (row_joint r)) same in
+    more left (ap (flat_map words) next ∙ each_append words (row_joint r) (rows_from b (k + 1))) (as_words made w)

@@ -1,25 +1,33 @@
--- The words of the joint rules of the sheets of the words u and v.
+-- The words of the joint rules of two sheets.
 use mathlib.Core.List.{List, flat_map}
-use Rattle.std.specs.Prelude.{ℕ, ◌+◌, ◌≤◌, ◌<◌, length, get_or}
+use Rattle.std.specs.Prelude.{ℕ, ◌+◌, ◌≤◌, get_or}
 use Rattle.model.specs.Sheet.{rule_words}
 use Rattle.model.specs.Compose.{pair, of_pairs}
-use Rattle.join_pairs.specs.declared.Sizes.{Sizes}
 use Rattle.join_alike.specs.declared.Spot.{Spot}
 use Rattle.join_alike.specs.declared.RulePair.{RulePair}
-use Rattle.join_alike.specs.Alike.{sizes_in, joint_rules_in, row_in}
+use Rattle.join_alike.specs.declared.Row.{Row}
+use Rattle.join_alike.specs.declared.Pairs.{Pairs}
+use Rattle.join_alike.specs.declared.Sheets.{Sheets}
+use Rattle.join_alike.specs.Alike.{pair_sizes, row_sizes, row_joint, joint_left, sheets_sizes, sheets_joint}
+
+-- word k of a spot's rule
+abbrev pub word_of : Spot → ℕ → ℕ
+word_of x k = get_or x.sheet.words.now (x.at + k) 0
 
 -- the pair of the states that are word k of two rules, each a number of one byte
-abbrev pub state_in : List ℕ → List ℕ → Sizes → RulePair → ℕ → ℕ
-state_in u v n r k = pair n.t (get_or u (r.s.at + k) 0) (get_or v (r.t.at + k) 0)
+abbrev pub state_in : RulePair → ℕ → ℕ
+state_in r k = pair (pair_sizes r).of_T (word_of r.s k) (word_of r.t k)
 
-pub record StatesAt (u v : List ℕ) (n : Sizes) (r : RulePair) (k : ℕ) : Type 0 where
-  pub few : n.t ≤ 64
-  pub first : (r.s.at + k < length u) × (get_or u (r.s.at + k) 0 ≤ 255)
-  pub second : (r.t.at + k < length v) × (get_or v (r.t.at + k) 0 ≤ 255)
+pub record StatesAt (r : RulePair) (k : ℕ) : Type 0 where
+  pub first : word_of r.s k ≤ 255
+  pub second : word_of r.t k ≤ 255
 
--- the words of all joint rules of a rule of S, and of all of them
-abbrev pub row_words : List ℕ → List ℕ → Spot → List ℕ
-row_words u v x = flat_map (rule_words (of_pairs (sizes_in u v))) (row_in u v x)
+-- the words of all joint rules of a row, of those of its pairs that are left, and of two sheets
+abbrev pub row_words : Row → List ℕ
+row_words r = flat_map (rule_words (of_pairs (row_sizes r))) (row_joint r)
 
-abbrev pub joint_words : List ℕ → List ℕ → List ℕ
-joint_words u v = flat_map (rule_words (of_pairs (sizes_in u v))) (joint_rules_in u v)
+abbrev pub words_left : Pairs → List ℕ
+words_left p = flat_map (rule_words (of_pairs (row_sizes p.row))) (joint_left p)
+
+abbrev pub joint_words : Sheets → List ℕ
+joint_words b = flat_map (rule_words (of_pairs (sheets_sizes b))) (sheets_joint b)

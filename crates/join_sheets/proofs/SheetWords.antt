@@ -1,11 +1,11 @@
 -- The words of a swapped sheet, and those of a joint sheet before its rules, by the words of sheets that pass.
-use mathlib.Core.Path.{◌≡◌, sym, ap, ap₂, ◌∙◌}
+use mathlib.Core.Path.{◌≡◌, refl, sym, ap, ap₂, ◌∙◌}
 use mathlib.Core.Bool.{Bool, not}
 use mathlib.Core.List.{List, [], ◌∷◌, ◌++◌, flat_map}
-use Prim.Native.Nat.{ℕ, ◌+◌, ◌*◌, ◌/◌, ◌%◌, ◌≤◌, ◌<◌, min}
+use Prim.Native.Nat.{ℕ, ◌+◌, ◌-◌, ◌*◌, ◌/◌, ◌%◌, ◌≤◌, ◌<◌, min}
 use native.Mathlib.Omega.{arith}
-use lib.ListN.{length, get_or, drop}
-use lib.Seq.{slice, take-length}
+use lib.ListN.{length, get_or, take, drop, length-drop}
+use lib.Seq.{take-length}
 use Rattle.model.specs.Lists.{has, only, numbers}
 use Rattle.model.specs.Sheet.{Sheet, W, mask, set_words, sheet_words}
 use Rattle.model.specs.Compose.{swapped, joint}
@@ -16,12 +16,13 @@ use Rattle.model.proofs.SetWords.{bit_mask}
 use Rattle.model.proofs.PassedLaws.{coded, in_range, states-word, final-words, tags-word}
 use Rattle.bits.proofs.BitLaws.{mask_like}
 use Rattle.page.specs.Page.{Writes}
+use Rattle.page.specs.declared.Page.{Page}
 use Rattle.sets.specs.Sets.{complement, pair_set}
 use Rattle.page.proofs.PageLaws.{then, as_words}
 use Rattle.sets.proofs.SetLaws.{few_pairs, pairs_mask}
-use Rattle.join_alike.specs.Alike.{Joinable}
+use Rattle.join_alike.specs.declared.Sheets.{Sheets}
 use Rattle.join_rules.specs.Written.{joint_words}
-use Rattle.join_sheets.specs.Sheets.{joint_in, BothPass, WithinLimits, final_in, head_words}
+use Rattle.join_sheets.specs.Sheets.{joint_of, final_of, head_words, WithinLimits}
 
 -- ---- swap
 
@@ -42,57 +43,50 @@ turned p f l =
 
 -- all words are as they were but for the final states
 swapped_code : {s : List ℕ} (t : Sheet) → s ≡ sheet_words t → {r : ℕ} → r ≡ mask t.states (has (swapped t).final)
-    → slice 0 2 s ++ ((r % W ∷ r / W ∷ []) ++ slice 4 (length s) s) ≡ sheet_words (swapped t)
+    → take 2 s ++ ((r % W ∷ r / W ∷ []) ++ take (length s - 4) (drop 4 s)) ≡ sheet_words (swapped t)
 unfolding swapped sheet_words set_words
 swapped_code {s} t e f =
-    let all : slice 4 (length s) s ≡ drop 4 s = ap (drop 4) (take-length s) in
+    let all : take (length s - 4) (drop 4 s) ≡ drop 4 s
+    = ap (λ (n : ℕ). take n (drop 4 s)) (sym (length-drop 4 s)) ∙ take-length (drop 4 s) in
     rw (all, e) (ap (λ (n : ℕ). 1 ∷ t.states ∷ n % W ∷ n / W ∷ drop 4 (sheet_words t)) f)
 
-pub swapped-written : {s : List ℕ} → Passes s → {x k r : ℕ} → x ≡ get_or s 2 0 + get_or s 3 0 * W → k ≡ get_or s 1 0 → r ≡ complement x k
-    → {l l₁ l₂ l₃ : List ℕ} {i i₁ i₂ i₃ : ℕ} → Writes l i (slice 0 2 s) l₁ i₁ → Writes l₁ i₁ (r % W ∷ r / W ∷ []) l₂ i₂
-    → Writes l₂ i₂ (slice 4 (length s) s) l₃ i₃ → Writes l i (sheet_words (swapped (sheet_in s))) l₃ i₃
+pub swapped-words_in : {s : List ℕ} → Passes s → {x k r : ℕ} → x ≡ get_or s 2 0 + get_or s 3 0 * W → k ≡ get_or s 1 0 → r ≡ complement x k
+    → take 2 s ++ ((r % W ∷ r / W ∷ []) ++ take (length s - 4) (drop 4 s)) ≡ sheet_words (swapped (sheet_in s))
 unfolding swapped
-swapped-written {s} ok ex ek er begun marked rest =
+swapped-words_in {s} ok ex ek er =
     let t = sheet_in s in
     let states = ap₂ complement (ex ∙ final-words ok) (ek ∙ states-word ok) in
     let finals = er ∙ states ∙ turned t.states (has t.final) (in_range ok).few_states in
-    as_words (swapped_code t (coded ok) finals) (then begun (then marked rest))
+    swapped_code t (coded ok) finals
 
 -- ---- join: the words before the rules
 
-module _ {u v : List ℕ} (h : BothPass u v) where
-  pub states_product : {p q : ℕ} → p ≡ get_or u 1 0 → q ≡ get_or v 1 0 → p * q ≡ (joint_in u v).states
+module _ (b : Sheets) {p q : ℕ} (ep : p ≡ (sheet_in b.s.words.now).states) (eq : q ≡ (sheet_in b.t.words.now).states) where
+  states_product : p * q ≡ (joint_of b).states
   unfolding joint
-  states_product ep eq = ap₂ (◌*◌) (ep ∙ states-word h.first) (eq ∙ states-word h.second)
+  states_product = ap₂ (◌*◌) ep eq
 
-  pub product_small : {p q : ℕ} → p ≡ get_or u 1 0 → q ≡ get_or v 1 0 → p * q ≤ 64
+  pub product_small : p * q ≤ 64
   unfolding joint
-  product_small ep eq = omega (arith, states_product ep eq, h.few.few)
+  product_small = omega (arith, states_product, b.few.few)
 
   -- a pair is final if both are
-  pub finals_paired : {p q x y set : ℕ} → p ≡ get_or u 1 0 → q ≡ get_or v 1 0 → x ≡ get_or u 2 0 + get_or u 3 0 * W → y
-      ≡ get_or v 2 0 + get_or v 3 0 * W
-      → set ≡ pair_set p q x y → set ≡ final_in u v
+  pub finals_paired : {x y set : ℕ} → x ≡ get_or b.s.words.now 2 0 + get_or b.s.words.now 3 0 * W
+      → y ≡ get_or b.t.words.now 2 0 + get_or b.t.words.now 3 0 * W → set ≡ pair_set p q x y → set ≡ final_of b
   unfolding joint
-  finals_paired ep eq ex ey e =
-      let s = sheet_in u in
-      let t = sheet_in v in
-      let sets = ap₂ (pair_set s.states t.states) (ex ∙ final-words h.first) (ey ∙ final-words h.second) in
-      e ∙ rw (ep ∙ states-word h.first, eq ∙ states-word h.second) sets
-      ∙ few_pairs s.states t.states (mask s.states (has s.final)) (mask t.states (has t.final)) h.few.few
-      ∙ pairs_mask (in_range h.first).final (in_range h.second).final h.few.some_T
+  finals_paired ex ey e =
+      let s = sheet_in b.s.words.now in
+      let t = sheet_in b.t.words.now in
+      let sets = ap₂ (pair_set s.states t.states) (ex ∙ final-words b.s.indexed.sheet) (ey ∙ final-words b.t.indexed.sheet) in
+      e ∙ rw (ep, eq) sets
+      ∙ few_pairs s.states t.states (mask s.states (has s.final)) (mask t.states (has t.final)) b.few.few
+      ∙ pairs_mask (in_range b.s.indexed.sheet).final (in_range b.t.indexed.sheet).final b.few.some_T
 
-  pub head_written : {p q set g n : ℕ} → p ≡ get_or u 1 0 → q ≡ get_or v 1 0 → set ≡ final_in u v → g ≡ get_or u 4 0
-      → {l l₁ l₂ l₃ : List ℕ} {i i₁ i₂ i₃ : ℕ} → Writes l i (slice 0 2 (1 ∷ p * q ∷ [])) l₁ i₁
-      → Writes l₁ i₁ (set % W ∷ set / W ∷ []) l₂ i₂ → Writes l₂ i₂ (slice 0 2 (g ∷ n ∷ [])) l₃ i₃ → Writes l i (head_words u v n) l₃ i₃
+  pub head_words_in : {set g n : ℕ} → set ≡ final_of b → g ≡ get_or b.s.words.now 4 0
+      → (1 ∷ p * q ∷ []) ++ ((set % W ∷ set / W ∷ []) ++ (g ∷ n ∷ [])) ≡ head_words b n
   unfolding head_words joint
-  head_written ep eq es eg begun marked rest =
-      as_words (rw (states_product ep eq, es, eg ∙ tags-word h.first)) (then begun (then marked rest))
+  head_words_in es eg = rw (states_product, es, eg ∙ tags-word b.s.indexed.sheet) refl
 
-pub both_pass : {u i v j : List ℕ} → Joinable u i v j → BothPass u v
-both_pass h = record { first = h.first.sheet; second = h.second.sheet; few = h.few }
-
-pub joint-written : {u i v j : List ℕ} {n : ℕ} → WithinLimits u i v j n → {l l₁ l₂ : List ℕ} {k k₁ k₂ : ℕ}
-    → Writes l k (head_words u v n) l₁ k₁ → Writes l₁ k₁ (joint_words u v) l₂ k₂ → Writes l k (sheet_words (joint_in u v)) l₂ k₂
+pub joint-words_in : (b : Sheets) {n : ℕ} → WithinLimits b n → head_words b n ++ joint_words b ≡ sheet_words (joint_of b)
 unfolding head_words sheet_words set_words joint
-joint-written {u} {v = v} h head rules = as_words (ap (λ (m : ℕ). head_words u v m ++ joint_words u v) h.number) (then head rules)
+joint-words_in b h = ap (λ (m : ℕ). head_words b m ++ joint_words b) h.number

@@ -3,32 +3,27 @@ use Rattle.std.specs.Prelude.{◌≡◌, List, [], ◌∷◌, ℕ, ◌/◌, ◌%
 use Rattle.model.specs.Lists.{has}
 use Rattle.model.specs.Sheet.{Sheet, W, mask}
 use Rattle.model.specs.Compose.{joint}
-use Rattle.model.specs.Index.{sheet_in, Passes}
-use Rattle.join_pairs.specs.Sides.{FewPairs}
-use Rattle.join_alike.specs.Alike.{sizes_in, joint_rules_in, Joinable, FewPositions}
+use Rattle.model.specs.Index.{sheet_in}
+use Rattle.join_alike.specs.declared.Sheets.{Sheets}
+use Rattle.join_alike.specs.Alike.{sheets_joint, FewPositions}
 
--- ---- the sheets of the words u and v
-
+-- the joint sheet of the words u and v
 abbrev pub joint_in : List ℕ → List ℕ → Sheet
 joint_in u v = joint (sheet_in u) (sheet_in v)
 
--- Both pass, and they have at most 64 pairs of states.
-pub record BothPass (u v : List ℕ) : Type 0 where
-  pub first : Passes u
-  pub second : Passes v
-  pub few : FewPairs (sizes_in u v)
+abbrev pub joint_of : Sheets → Sheet
+joint_of b = joint_in b.s.words.now b.t.words.now
 
--- With the indexes i and j: there are n joint rules, with few enough positions.
-pub record WithinLimits (u i v j : List ℕ) (n : ℕ) : Type 0 where
-  pub both : Joinable u i v j
-  pub few_positions : FewPositions (joint_rules_in u v)
-  pub number : n ≡ length (joint_rules_in u v)
+-- there are n joint rules, with few enough positions
+pub record WithinLimits (b : Sheets) (n : ℕ) : Type 0 where
+  pub few_positions : FewPositions (sheets_joint b)
+  pub number : n ≡ length (sheets_joint b)
 
 -- ---- the words before the joint rules, if there are n of them
 
 -- the joint final states, as the number of their set
-abbrev pub final_in : List ℕ → List ℕ → ℕ
-final_in u v = mask (joint_in u v).states (has (joint_in u v).final)
+abbrev pub final_of : Sheets → ℕ
+final_of b = mask (joint_of b).states (has (joint_of b).final)
 
-unfoldable pub head_words : List ℕ → List ℕ → ℕ → List ℕ
-head_words u v n = 1 ∷ (joint_in u v).states ∷ final_in u v % W ∷ final_in u v / W ∷ (joint_in u v).tags ∷ n ∷ []
+unfoldable pub head_words : Sheets → ℕ → List ℕ
+head_words b n = 1 ∷ (joint_of b).states ∷ final_of b % W ∷ final_of b / W ∷ (joint_of b).tags ∷ n ∷ []

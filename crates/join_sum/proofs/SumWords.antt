@@ -24,12 +24,11 @@ use Rattle.parts.specs.Lengths.{sum_length}
 use Rattle.sets.specs.Sets.{pair_set}
 use Rattle.sets.proofs.SetLaws.{few_pairs}
 use Rattle.page.specs.Page.{repeated, repeated_each}
-use Rattle.join_sum.specs.declared.SumHead.{SumHead}
+use Rattle.join_sum.specs.declared.Sum.{Sum}
 use Rattle.model.specs.Spans.{SumAt}
-use Rattle.join_sum.specs.Sums.{times_in, SumOf}
+use Rattle.join_sum.specs.Sums.{SumOf}
 use Rattle.join_pairs.proofs.NumberLaws.{few-S, few-T}
-use Rattle.join_pairs.specs.Sides.{FewPairs}
-use Rattle.model.proofs.PartLaws.{words-from, words-within}
+use Rattle.join_pairs.specs.Pairs.{FewPairs}
 
 -- ---- lists of what is made of each element
 
@@ -173,18 +172,6 @@ module _ {p a : ℕ} {s : List ℕ} {cs : List Coefficient} (few : p ≤ 64) (h 
       = stands-members (words_stand p (marks cs) few h.ranges.marked refl) below in
       rw (low_word, high_word, all) (omega (arith, length-map cs (λ c. c.state), length-map cs (λ c. signed_word c.times)))
 
-  pub sum_of : {set e : ℕ} → set ≡ get_or s a 0 + get_or s (a + 1) 0 * W → e ≡ a + length (sum_words p cs)
-      → SumOf p s (record { marks = set; from = a + 2; to = e }) cs
-  unfolding sum_words set_words
-  sum_of {e = e} es ee =
-      let body = span_right (sum_set % W ∷ sum_set / W ∷ []) (times_words cs) h.there in
-      let last : e ≡ h.end = ee ∙ sym h.there.ends in
-      record {
-        ranges = h.ranges;
-        marks = omega (arith, low_word, high_word);
-        words = rw last (words-from body (omega (arith, body.ends, words-within h.there (omega arith))));
-      }
-
 -- ---- the words of a lifted sum
 
 -- a pair is marked in a lifted sum if its half is marked
@@ -234,9 +221,9 @@ set_lifted {n} few m T =
     few_pairs n.of_S n.of_T (2 ^ 64 - 1) m few.few ∙ mask_like (of_pairs n) _ _ (λ x l.
     rw (bit-all (x / n.of_T) (omega (arith, half-below S n l, few-S few))))
 
-pub lifted_sum-words : (side : Side) {n : Sizes} → FewPairs n → {s : List ℕ} {x : SumHead} {cs : List Coefficient}
-    → SumOf (of_side side n) s x cs → {set : ℕ} → set ≡ lifted_set side n x.marks
-    → (set % W ∷ set / W ∷ []) ++ lifted_times side n (times_in s x) ≡ sum_words (of_pairs n) (lift_sum side n cs)
+pub lifted_sum-words : (side : Side) {n : Sizes} → FewPairs n → {x : Sum} {cs : List Coefficient}
+    → SumOf (of_side side n) x cs → {set : ℕ} → set ≡ lifted_set side n x.marks
+    → (set % W ∷ set / W ∷ []) ++ lifted_times side n x.times.now ≡ sum_words (of_pairs n) (lift_sum side n cs)
 unfolding sum_words set_words
 lifted_sum-words side {n} few {x = x} {cs} h {set} e =
     let marked : (y : ℕ) → y < of_pairs n → bit x.marks (half side n.of_T y) ≡ has (marks (lift_sum side n cs)) y

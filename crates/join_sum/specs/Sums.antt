@@ -1,26 +1,21 @@
 -- Sums among the words of a sheet, and what is written of them.
 use Rattle.std.specs.Prelude.{◌≡◌, List, map, ℕ}
-use Rattle.std.proofs.Math.Seq.{slice}
 use Rattle.model.specs.Lists.{has}
 use Rattle.model.specs.Sheet.{Coefficient, mask, marks, signed_word, sum_words, SumInRange}
 use Rattle.model.specs.Compose.{of_side, of_pairs, lift_sum}
 use Rattle.join_pairs.specs.declared.Side.{Side}
 use Rattle.join_pairs.specs.declared.Sizes.{Sizes}
 use Rattle.join_pairs.specs.Sides.{side_of, sizes_of}
-use Rattle.join_sum.specs.declared.SumHead.{SumHead}
-
--- the words of its coefficients
-abbrev pub times_in : List ℕ → SumHead → List ℕ
-times_in s h = slice h.from h.to s
+use Rattle.join_sum.specs.declared.Sum.{Sum}
 
 -- the code has found a sum over p states
-pub record SumOf (p : ℕ) (s : List ℕ) (h : SumHead) (cs : List Coefficient) : Type 0 where
+pub record SumOf (p : ℕ) (x : Sum) (cs : List Coefficient) : Type 0 where
   pub ranges : SumInRange p cs
-  pub marks : h.marks ≡ mask p (has (marks cs))
-  pub words : times_in s h ≡ map (λ c. signed_word c.times) cs
+  pub marks : x.marks ≡ mask p (has (marks cs))
+  pub words : x.times.now ≡ map (λ c. signed_word c.times) cs
 
 -- what is written of it
-abbrev pub LiftsSum : Side → Sizes → List ℕ → SumHead → (List ℕ → Type 0) → Type 0
-LiftsSum side n s h Written =
-    (cs : List Coefficient) → SumOf (of_side (side_of side) (sizes_of n)) s h cs
+abbrev pub LiftsSum : Side → Sizes → Sum → (List ℕ → Type 0) → Type 0
+LiftsSum side n x Written =
+    (cs : List Coefficient) → SumOf (of_side (side_of side) (sizes_of n)) x cs
     → Written (sum_words (of_pairs (sizes_of n)) (lift_sum (side_of side) (sizes_of n) cs))

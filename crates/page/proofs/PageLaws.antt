@@ -1,5 +1,5 @@
 -- Laws of writing: one run of words after another, what a loop that writes keeps, and the front of the buffer at last.
-use mathlib.Core.Path.{◌≡◌, refl, sym, ap, ◌∙◌}
+use mathlib.Core.Path.{◌≡◌, refl, sym, ap, ap₂, ◌∙◌}
 use mathlib.Core.Logic.{by_cases}
 use mathlib.Core.List.{List, [], ◌∷◌, ◌++◌, flat_map}
 use Prim.Native.Nat.{ℕ, suc, ◌+◌, ◌-◌, ◌≤◌, ◌<◌, min}
@@ -7,32 +7,39 @@ use native.Mathlib.Decide.{dec_le}
 use native.Mathlib.Nat.{zero-add, sub-zero}
 use native.Mathlib.Numerals.{add-one}
 use native.Mathlib.Omega.{arith}
-use lib.ListN.{length, get_or, take, drop, set, length-set, length-take, drop_of_length-le}
-use lib.Seq.{sets, sets-eq, slice, slice-cons, take_all}
+use lib.ListN.{length, get_or, drop, set, length-set, drop_of_length-le}
+use lib.Seq.{sets, sets-eq, drop-cons}
 use borrow.Author.Tests as tests
 use Rattle.model.specs.Lists.{from, numbers, row, grid}
-use Rattle.page.specs.Page.{Page, page, add, adds, repeated, Writes}
+use Rattle.page.specs.Page.{Leaf, leaf, add, adds, repeated, Writes, Fills}
+use Rattle.page.specs.declared.Page.{Page}
 
-pub nothing : (l : List ℕ) (i : ℕ) → Writes l i [] l i
+abbrev leaf_of : Page → Leaf
+leaf_of p = leaf p.out.now p.at
+
+pub nothing : (p : Page) → Writes p [] p
 unfolding adds
-nothing l i = record { is = refl }
+nothing p = record { same = refl; is = refl }
 
 -- ---- one run of words after another
 
-adds-append : (g : Page) (u v : List ℕ) → adds g (u ++ v) ≡ adds (adds g u) v
+adds-append : (g : Leaf) (u v : List ℕ) → adds g (u ++ v) ≡ adds (adds g u) v
 unfolding adds
 adds-append g [] v = refl
 adds-append g (w ∷ u) v = adds-append (add g w) u v
 
-pub then : {l m n : List ℕ} {i j k : ℕ} {u v : List ℕ} → Writes l i u m j → Writes m j v n k → Writes l i (u ++ v) n k
-then {l} {i = i} {u = u} {v = v} p q = record { is = q.is ∙ ap (λ (x : Page). adds x v) p.is ∙ sym (adds-append (page l i) u v) }
+pub then : {p q r : Page} {u v : List ℕ} → Writes p u q → Writes q v r → Writes p (u ++ v) r
+then {p} {u = u} {v = v} h k = record {
+  same = k.same ∙ h.same;
+  is = k.is ∙ ap (λ (x : Leaf). adds x v) h.is ∙ sym (adds-append (leaf_of p) u v);
+}
 
 -- the same words, said otherwise
-pub as_words : {l m : List ℕ} {i j : ℕ} {u v : List ℕ} → u ≡ v → Writes l i u m j → Writes l i v m j
-as_words {l} {i = i} e p = record { is = p.is ∙ ap (adds (page l i)) e }
+pub as_words : {p q : Page} {u v : List ℕ} → u ≡ v → Writes p u q → Writes p v q
+as_words {p} e h = record { same = h.same; is = h.is ∙ ap (adds (leaf_of p)) e }
 
 -- the buffer keeps its length
-adds-length : (g : Page) (ws : List ℕ) → length (adds g ws).words ≡ length g.words
+adds-length : (g : Leaf) (ws : List ℕ) → length (adds g ws).words ≡ length g.words
 unfolding adds add
 adds-length g [] = refl
 adds-length g (w ∷ ws) =
@@ -41,41 +48,31 @@ adds-length g (w ∷ ws) =
 
 -- ---- a loop: what is left to write leads from here to where the whole leads from the start
 
-pub record Left (l₀ : List ℕ) (i₀ : ℕ) (ws l : List ℕ) (i : ℕ) (rest : List ℕ) : Type 0 where
-  pub is : adds (page l i) rest ≡ adds (page l₀ i₀) ws
+pub record Left (p₀ : Page) (ws : List ℕ) (p : Page) (rest : List ℕ) : Type 0 where
+  pub same : p.out.ghost_name ≡ p₀.out.ghost_name
+  pub is : adds (leaf_of p) rest ≡ adds (leaf_of p₀) ws
 
-pub begun : {l : List ℕ} {i : ℕ} {ws rest : List ℕ} → rest ≡ ws → Left l i ws l i rest
-begun {l} {i} e = record { is = ap (adds (page l i)) e }
+pub begun : {p : Page} {ws rest : List ℕ} → rest ≡ ws → Left p ws p rest
+begun {p} e = record { same = refl; is = ap (adds (leaf_of p)) e }
 
-module _ {l₀ : List ℕ} {i₀ : ℕ} {ws l : List ℕ} {i : ℕ} {rest : List ℕ} (inv : Left l₀ i₀ ws l i rest) where
-  pub more : {u v m : List ℕ} {j : ℕ} → rest ≡ u ++ v → Writes l i u m j → Left l₀ i₀ ws m j v
-  more {u} {v} e p = record { is = rw (p.is, ← adds-append (page l i) u v, ← e) inv.is }
+module _ {p₀ : Page} {ws : List ℕ} {p : Page} {rest : List ℕ} (inv : Left p₀ ws p rest) where
+  pub more : {u v : List ℕ} {q : Page} → rest ≡ u ++ v → Writes p u q → Left p₀ ws q v
+  more {u} {v} e h = record { same = h.same ∙ inv.same; is = rw (h.is, ← adds-append (leaf_of p) u v, ← e) inv.is }
 
-  pub done : rest ≡ [] → Writes l₀ i₀ ws l i
+  pub done : rest ≡ [] → Writes p₀ ws p
   unfolding adds
-  done e = record { is = ap (adds (page l i)) (sym e) ∙ inv.is }
-
-  pub kept : length l ≡ length l₀
-  kept = sym (adds-length (page l i) rest) ∙ ap (λ (x : Page). length x.words) inv.is ∙ adds-length (page l₀ i₀) ws
+  done e = record { same = inv.same; is = ap (adds (leaf_of p)) (sym e) ∙ inv.is }
 
 -- ---- lists, one element at a time
 
--- the words of a list from one index up to another; the numbers below n from i on
-pub slice_next : (l : List ℕ) (i j : ℕ) → i < j → j ≤ length l → slice i j l ≡ get_or l i 0 ∷ slice (i + 1) j l
-slice_next l i j h k = rw add-one (slice-cons i j l 0 h k)
+-- the words of a list from an index on
+pub rest_next : (l : List ℕ) (i : ℕ) → i < length l → drop i l ≡ get_or l i 0 ∷ drop (i + 1) l
+rest_next l i h = rw add-one (drop-cons l i 0 h)
 
--- the first of them, as it was read
-pub slice_at : (l : List ℕ) (i j : ℕ) {w : ℕ} → w ≡ get_or l i 0 → i < j → j ≤ length l → slice i j l ≡ w ∷ slice (i + 1) j l
-slice_at l i j e h k = rw e (slice_next l i j h k)
+pub rest_none : (l : List ℕ) (i : ℕ) → length l ≤ i → drop i l ≡ []
+rest_none l i h = drop_of_length-le l {i = i} h
 
-pub slice_none : (l : List ℕ) (i j : ℕ) → j ≤ i → slice i j l ≡ []
-slice_none l i j h = drop_of_length-le (take j l) {i = i} (omega (arith, length-take j l))
-
--- cut off where the list ends
-pub slice_cut : (l : List ℕ) (i j : ℕ) {e : ℕ} → e ≡ min j (length l) → slice i e l ≡ slice i j l
-slice_cut l i j {e} h = by_cases (dec_le j (length l)) (λ k. let same : e ≡ j = omega arith in rw same)
-    (λ k. rw (take_all e l (omega arith), take_all j l (omega arith)))
-
+-- the numbers below n from i on
 pub from_start : {m n : ℕ} → n ≡ m → from (n - 0) 0 ≡ numbers m
 from_start {m} {n} e = rw (sub-zero n, e)
 
@@ -116,16 +113,16 @@ module _ (f : ℕ → ℕ → ℕ) where
 -- ---- from the start of a buffer: the number of words, and the front of the buffer
 
 -- words within the most are stored one after another
-adds-all : (ws l : List ℕ) (i : ℕ) → i + length ws ≤ 16385 → adds (page l i) ws ≡ page (sets l i ws) (i + length ws)
+adds-all : (ws l : List ℕ) (i : ℕ) → i + length ws ≤ 16385 → adds (leaf l i) ws ≡ leaf (sets l i ws) (i + length ws)
 unfolding adds add
-adds-all [] l i h = let e : i ≡ i + 0 = omega arith in ap (page l) e
+adds-all [] l i h = let e : i ≡ i + 0 = omega arith in ap (leaf l) e
 adds-all (w ∷ ws) l i h =
     let e : suc i + length ws ≡ i + length (w ∷ ws) = omega arith in
     rw (tests.le-leb i 16384 (omega arith), add-one i)
-    (adds-all ws (set l i w) (suc i) (omega arith) ∙ ap (page (sets (set l i w) (suc i) ws)) e)
+    (adds-all ws (set l i w) (suc i) (omega arith) ∙ ap (leaf (sets (set l i w) (suc i) ws)) e)
 
 -- and all are counted, up to one more than the most
-adds-next : (ws : List ℕ) (g : Page) → g.next ≤ 16385 → (adds g ws).next ≡ min (g.next + length ws) 16385
+adds-next : (ws : List ℕ) (g : Leaf) → g.next ≤ 16385 → (adds g ws).next ≡ min (g.next + length ws) 16385
 unfolding adds add
 adds-next [] g h = omega arith
 adds-next (w ∷ ws) g h =
@@ -134,10 +131,15 @@ adds-next (w ∷ ws) g h =
     rw (tests.lt-leb g.next 16384 (omega arith)) (omega arith)) in
     omega (arith, adds-next ws (add g w) (omega arith))
 
-module _ {l ws l' : List ℕ} {i : ℕ} (p : Writes l 0 ws l' i) where
-  pub counted : i ≡ min (length ws) 16385
-  counted = omega (arith, ap (λ (x : Page). x.next) p.is, adds-next ws (page l 0) (omega arith))
+module _ {l ws l' : List ℕ} {n : ℕ} where
+  pub filled : {p q : Page} → p.out.now ≡ l → p.at ≡ 0 → Writes p ws q → q.out.now ≡ l' → n ≡ q.at → Fills l ws l' n
+  filled empty start h last all =
+      record { is = ap₂ leaf (sym last) all ∙ h.is ∙ ap₂ (λ (m : List ℕ) (i : ℕ). adds (leaf m i) ws) empty start }
 
-  pub front : length ws ≤ 16384 → length ws ≤ length l → l' ≡ ws ++ drop (length ws) l
-  front few room =
-      ap (λ (x : Page). x.words) (p.is ∙ adds-all ws l 0 (omega arith)) ∙ sets-eq ws l 0 (omega arith) ∙ rw (zero-add (length ws))
+  module _ (h : Fills l ws l' n) where
+    pub counted : n ≡ min (length ws) 16385
+    counted = omega (arith, ap (λ (x : Leaf). x.next) h.is, adds-next ws (leaf l 0) (omega arith))
+
+    pub front : length ws ≤ 16384 → length ws ≤ length l → l' ≡ ws ++ drop (length ws) l
+    front few room =
+        ap (λ (x : Leaf). x.words) (h.is ∙ adds-all ws l 0 (omega arith)) ∙ sets-eq ws l 0 (omega arith) ∙ rw (zero-add (length ws))

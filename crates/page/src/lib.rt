@@ -1,108 +1,92 @@
 // Words put into a buffer one after another, or counted. Every function is total.
 #![tactic(auto)]
 
-ghost use Rattle.std.specs.Prelude.{◌≡◌, [], ◌∷◌, ◌/◌, ◌%◌, ◌≤◌, min, length};
-ghost use Rattle.std.proofs.Math.Seq.{slice};
+ghost use Rattle.std.specs.Prelude.{◌≡◌, [], ◌∷◌, ◌/◌, ◌%◌};
 ghost use Rattle.model.specs.Sheet.{W};
-ghost use Rattle.page.specs.Page.{repeated, repeated_each, Writes};
 
 use layout::MOST_WORDS;
 
 // 2 to the power 32
-pub const WORD: u64 = 0x1_0000_0000;
+const WORD: u64 = 1 << 32;
 
-// Writes a word where the buffer has that index, and gives the next one. Past the most words of a sheet nothing is written
-// and the index stays, so that every writer also counts its words, on a buffer without room.
-pub fn put(out: &mut [u32], at: usize, w: u32) -> usize
-    ensures { Writes out.old at (w ∷ []) out.new result }
+// The two halves of a set as words: the low 32 bits and the high.
+fn halves(set: u64) -> [u32; 2]
+    ensures { result ≡ set % W ∷ set / W ∷ [] }
 {
-    if MOST_WORDS < at {
-        return at;
-    }
-    if at < out.len() {
-        out[at] = w;
-        return at + 1;
-    }
-    at + 1
+    [(set % WORD) as u32, (set / WORD) as u32]
 }
 
-// The index `to`, or the number of words if that is less.
-fn end_within(words: &[u32], to: usize) -> usize
-    ensures is { result ≡ min to (length words.now) }
-    ensures within { result ≤ length words.now }
-{
-    if to < words.len() {
-        return to;
+// A buffer that words are put into one after another, and the index of the next.
+#[derive(Drop)]
+pub struct Page<'a> {
+    pub out: &'a mut [u32],
+    pub at: usize,
+}
+
+impl<'a> Page<'a> {
+    ghost use Rattle.page.specs.Page.{repeated, repeated_each, Writes};
+
+    // An empty page at the front of a buffer.
+    pub fn new(out: &'a mut [u32]) -> Page<'a>
+        ensures same { result.out.ghost_name ≡ out.entry.ghost_name }
+        ensures words { result.out.now ≡ out.old }
+        ensures at { result.at ≡ 0 }
+    {
+        Page { out, at: 0 }
     }
-    words.len()
-}
 
-// Writes the words from index `from` up to index `to`, as far as there are any.
-pub fn copy(words: &[u32], from: usize, to: usize, out: &mut [u32], at: usize) -> usize
-    ensures { Writes out.old at (slice from to words.now) out.new result }
-{
-    let end = end_within(words, to);
-    let mut next = at;
-    let mut i = from;
-    while i < end {
-        next = put(out, next, words[i]);
-        i += 1;
+    // How many words have been put, as far as they are counted.
+    pub fn count(&self) -> usize
+        ensures { result ≡ self.now.at }
+    {
+        self.at
     }
-    next
-}
 
-// Writes a word `n` times.
-fn repeat_word(w: u32, n: u32, out: &mut [u32], at: usize) -> usize
-    ensures { Writes out.old at (repeated n (w ∷ [])) out.new result }
-{
-    repeat_all(&[w], 0, 1, n, out, at)
-}
-
-// Writes the words from index `from` up to index `to`, as far as there are any, each `n` times in a row.
-pub fn repeat_each(
-    words: &[u32],
-    from: usize,
-    to: usize,
-    n: u32,
-    out: &mut [u32],
-    at: usize,
-) -> usize
-    ensures { Writes out.old at (repeated_each n (slice from to words.now)) out.new result }
-{
-    let end = end_within(words, to);
-    let mut next = at;
-    let mut i = from;
-    while i < end {
-        next = repeat_word(words[i], n, out, next);
-        i += 1;
+    // Writes a word where the buffer has the next index. Past the most words of a sheet nothing is written and the index stays, so
+    // that every writer also counts its words, on a buffer without room.
+    pub fn put(&mut self, word: u32)
+        ensures { Writes self.old (word ∷ []) self.new }
+    {
+        if MOST_WORDS < self.at {
+            return;
+        }
+        if self.at < self.out.len() {
+            self.out[self.at] = word;
+        }
+        self.at += 1;
     }
-    next
-}
 
-// Writes the words from index `from` up to index `to`, as far as there are any, all of them `n` times over.
-pub fn repeat_all(
-    words: &[u32],
-    from: usize,
-    to: usize,
-    n: u32,
-    out: &mut [u32],
-    at: usize,
-) -> usize
-    ensures { Writes out.old at (repeated n (slice from to words.now)) out.new result }
-{
-    let mut next = at;
-    let mut left = n;
-    while 0 < left {
-        next = copy(words, from, to, out, next);
-        left -= 1;
+    // Writes words one after another.
+    pub fn copy(&mut self, words: &[u32])
+        ensures { Writes self.old words.now self.new }
+    {
+        for w in words {
+            self.put(*w);
+        }
     }
-    next
-}
 
-// Writes a set as two words: the low 32 bits and the high.
-pub fn put_set(out: &mut [u32], at: usize, set: u64) -> usize
-    ensures { Writes out.old at (set % W ∷ set / W ∷ []) out.new result }
-{
-    let pair = [(set % WORD) as u32, (set / WORD) as u32];
-    copy(&pair, 0, 2, out, at)
+    // Writes words, each `n` times in a row.
+    pub fn repeat_each(&mut self, words: &[u32], n: u32)
+        ensures { Writes self.old (repeated_each n words.now) self.new }
+    {
+        for w in words {
+            self.repeat_all(&[*w], n);
+        }
+    }
+
+    // Writes words, all of them `n` times over.
+    pub fn repeat_all(&mut self, words: &[u32], n: u32)
+        ensures { Writes self.old (repeated n words.now) self.new }
+    {
+        for _ in 0..n {
+            self.copy(words);
+        }
+    }
+
+    // Writes a set as two words: the low 32 bits and the high.
+    pub fn put_set(&mut self, set: u64)
+        ensures { Writes self.old (set % W ∷ set / W ∷ []) self.new }
+    {
+        self.copy(&halves(set));
+    }
 }

@@ -4,7 +4,7 @@ use mathlib.Core.Logic.{◌≢◌}
 use mathlib.Core.Bool.{Bool, true, false, cond, not, ◌&&◌}
 use mathlib.Core.List.{List}
 use Prim.Native.Nat.{ℕ, zero, suc, ◌+◌, ◌-◌, ◌*◌, ◌/◌, ◌%◌, ◌^◌, ◌≤◌, ◌<◌, min}
-use native.Mathlib.Nat.{zero-add, suc-add, mul_assoc, mul-le-mul_right, pow-suc, mod-lt, div-lt_iff_lt-mul, le-div_iff_mul-le, lt_of_not-le}
+use native.Mathlib.Nat.{zero-add, suc-add, mul_assoc, mul-le-mul_right, pow-suc, mod-lt, div-lt_iff_lt-mul}
 use native.Mathlib.Omega.{arith}
 use lib.Bits.{bit_and, and_le_l}
 use lib.Pow.{pow_pos, pow_mono, shl_exact}
@@ -99,30 +99,26 @@ module _ (m n s t : ℕ) where
   unfolding pair_set mask
   no_columns e = let none : m * 0 ≡ 0 = omega arith in rw (e, none)
 
-  pub many_pairs : n ≢ 0 → 64 / n < m → 0 ≡ pair_set m n s t
+  pub many_pairs : 64 < m * n → 0 ≡ pair_set m n s t
   unfolding pair_set
-  many_pairs other h =
-      let some : 1 ≤ n = omega (arith, other) in
-      let many : 64 < m * n = lt_of_not-le (λ l. absurd (omega (arith, (le-div_iff_mul-le {x = m} {y = 64} some).1 l))) in
-      rw (tests.lt-leb (m * n) 64 many)
+  many_pairs h = rw (tests.lt-leb (m * n) 64 h)
 
   pub few_pairs : m * n ≤ 64 → pair_set m n s t ≡ mask (m * n) (both n s t)
   unfolding pair_set
   few_pairs h = rw (tests.le-leb (m * n) 64 h)
 
-  pub no_rows : n ≢ 0 → m ≤ 64 / n → Rows m n s t 0 0
+  pub no_rows : n ≢ 0 → m * n ≤ 64 → Rows m n s t 0 0
   unfolding mask
-  no_rows other h =
-      let some : 1 ≤ n = omega (arith, other) in
+  no_rows other few =
       let none : 0 * n ≡ 0 = omega arith in
-      record { some = some; few = (le-div_iff_mul-le some).0 h; within = omega arith; is = rw none }
+      record { some = omega (arith, other); few = few; within = omega arith; is = rw none }
 
 pub all_rows : {m n s t i set : ℕ} → Rows m n s t i set → m ≤ i → set ≡ pair_set m n s t
 all_rows {m} {n} {s} {t} {i} h l = let e : i ≡ m = omega (arith, h.within) in h.is ∙ rw e (sym (few_pairs m n s t h.few))
 
 -- one row more: that of i, all members of t below n or none of them
 module _ {m n s t i set : ℕ} (h : Rows m n s t i set) (l : i < m) where
-  pub row_room : i * n + n ≤ 64
+  row_room : i * n + n ≤ 64
   row_room = let k : suc i * n ≤ m * n = mul-le-mul_right n l in omega (arith, h.few)
 
   module _ {row : ℕ} {flag : Bool} (f : flag ≡ bit s i) (r : row ≡ mask (min n 64) (bit t)) where
@@ -136,9 +132,6 @@ module _ {m n s t i set : ℕ} (h : Rows m n s t i set) (l : i < m) where
     row_small : row * bool_byte flag < 2 ^ n
     row_small = omega (arith, row_is, mask-< n (λ j. flag && bit t j))
 
-    pub row_fits : row * bool_byte flag < 2 ^ 64
-    row_fits = let k : n ≤ 64 = omega (arith, row_room) in omega (arith, row_small, pow_mono k)
-
     abbrev with_row : ℕ
     with_row = set + ((row * bool_byte flag) * 2 ^ (i * n)) % 2 ^ 64
 
@@ -149,13 +142,29 @@ module _ {m n s t i set : ℕ} (h : Rows m n s t i set) (l : i < m) where
         ap₂ ◌+◌ h.is (shl_exact n (i * n) 64 row_small (omega (arith, row_room)) ∙ ap (λ (x : ℕ). x * 2 ^ (i * n)) high)
         ∙ sym (mask_parts (i * n) n (both n s t))
 
-    pub with_row-fits : with_row < 2 ^ 64
+    with_row-fits : with_row < 2 ^ 64
     with_row-fits = omega (arith, with_row-is, mask-< (i * n + n) (both n s t), pow_mono row_room)
 
-    pub one_row_more : Rows m n s t (i + 1) with_row
+    one_row_more : Rows m n s t (i + 1) with_row
     one_row_more =
         let e : i * n + n ≡ (i + 1) * n = omega arith in
         record { some = h.some; few = h.few; within = omega arith; is = with_row-is ∙ ap (λ (k : ℕ). mask k (both n s t)) e }
+
+  module _ {row : ℕ} (r : row ≡ mask (min n 64) (bit t)) where
+    all_of_row : row * 1 ≡ row
+    all_of_row = omega arith
+
+    pub row_fits : true ≡ bit s i → set + (row * 2 ^ (i * n)) % 2 ^ 64 < 2 ^ 64
+    row_fits f = rw all_of_row at (with_row-fits {flag = true} f r)
+
+    pub row_in : true ≡ bit s i → Rows m n s t (i + 1) (set + (row * 2 ^ (i * n)) % 2 ^ 64)
+    row_in f = rw all_of_row at (one_row_more {flag = true} f r)
+
+    pub row_out : false ≡ bit s i → Rows m n s t (i + 1) set
+    row_out f =
+        let none : row * 0 ≡ 0 = omega arith in
+        let same : set + (0 * 2 ^ (i * n)) % 2 ^ 64 ≡ set = omega arith in
+        rw same at (rw none at (one_row_more {flag = false} f r))
 
 -- ---- pairs of two sets
 

@@ -9,16 +9,13 @@ ghost use Rattle.sets.specs.Sets.{all_below, complement, pair_set};
 const LIMIT: u32 = 64;
 
 // every number below 64
-pub const ALL: u64 = 0xFFFF_FFFF_FFFF_FFFF;
+pub const ALL: u64 = u64::MAX;
 
 // Every number below `k` that is below 64.
 pub fn all_below(k: u32) -> u64
     ensures { result ≡ all_below k }
 {
-    if k < LIMIT {
-        return (1u64 << k) - 1;
-    }
-    ALL
+    1u64.checked_shl(k).map_or(ALL, |next| next - 1)
 }
 
 // The members of a set that are below `k`.
@@ -40,18 +37,15 @@ pub fn complement(set: u64, k: u32) -> u64
 pub fn pair_set(m: u32, n: u32, s: u64, t: u64) -> u64
     ensures { result ≡ pair_set m n s t }
 {
-    if n == 0 {
-        return 0;
-    }
-    if LIMIT / n < m {
+    if n == 0 || LIMIT < m.saturating_mul(n) {
         return 0;
     }
     let row = below(t, n);
-    let mut set: u64 = 0;
-    let mut i = 0;
-    while i < m {
-        set += (row * (bits::has(s, i) as u64)) << (i * n);
-        i += 1;
+    let mut set = 0;
+    for i in 0..m {
+        if bits::has(s, i) {
+            set += row << (i * n);
+        }
     }
     set
 }

@@ -2,15 +2,17 @@
 use native.Mathlib.Omega.{arith}
 use Rattle.model.specs.Answers.{said, said_refusal}
 use Rattle.compose.proofs.LimitChecks.{product_fits, states-over, few_joinable}
-use borrow.Author.Rules.{rules}
 use Rattle.compose.proofs.join_indexed.Goals as goal
 
-pub overflow_mul-at : goal.overflow_mul-at
-overflow_mul-at c = omega (arith, product_fits c.requires.s c.requires.t c.at.ensures c.at-2.ensures)
+pub overflow_mul-states : goal.overflow_mul-states
+overflow_mul-states c = omega (arith, product_fits c.args.s c.args.t c.states.ensures c.states-2.ensures)
 
-pub returns-then-at-gt-MOST_STATES : goal.returns-then-at-gt-MOST_STATES
+pub returns-then-states-gt-MOST_STATES : goal.returns-then-states-gt-MOST_STATES
 unfolding said said_refusal
-returns-then-at-gt-MOST_STATES c = search (states-over, rules)
+returns-then-states-gt-MOST_STATES c =
+    rw c.from.ensures
+    (states-over c.args.s c.args.t c.states.ensures c.states-2.ensures c.if-states-gt-MOST_STATES.true c.args.out.now)
 
-pub join_few-requires : goal.join_few-requires
-join_few-requires c = search (few_joinable, rules)
+pub invariant_of-join_few : goal.invariant_of-join_few
+invariant_of-join_few c =
+    record { few = few_joinable c.args.s c.args.t c.states.ensures c.states-2.ensures c.if-states-gt-MOST_STATES.false }

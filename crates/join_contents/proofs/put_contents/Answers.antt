@@ -4,11 +4,14 @@ use Rattle.join_contents.proofs.ContentLaws.{targets_small, targets_pair, conten
 use Rattle.join_contents.proofs.put_contents.Goals as goal
 
 pub pair-requires : goal.pair-requires
-pair-requires c = targets_small c.requires.pair c.at-s.ensures c.at-t.ensures
+pair-requires c =
+    let s = c.target_state.ensures in
+    let t = c.target_state-2.ensures in
+    targets_small c.args.rules.now c.sizes.result c.sizes.ensures s.is t.is s.few t.few
 
 pub returns : goal.returns
 returns c =
-    let pair = c.requires.pair in
-    let target = targets_pair pair c.at-s.ensures c.at-t.ensures c.pair.ensures.0 in
-    as_words (content-words_in pair c.requires.map c.joint_map.ensures target)
-    (then c.put-mapped.ensures (then c.put_order-ruled.ensures (then c.put_count-summed.ensures c.put.ensures)))
+    let target
+    = targets_pair c.args.rules.now c.sizes.result c.sizes.ensures c.target_state.ensures.is c.target_state-2.ensures.is c.pair.ensures.0 in
+    as_words (content-words_in c.args.rules.now c.requires.map c.joint_map.ensures target)
+    (then c.put.ensures (then c.put_order.ensures (then c.put_count.ensures c.put-2.ensures)))

@@ -1,39 +1,50 @@
 -- `put_order` meets its contract: one answer for each of the four cases.
-use native.Mathlib.Omega.{arith}
-use Rattle.join_contents.proofs.ContentLaws.{places_fit, states-S, states-T, order-there, orders_pairable, orders_paired}
-use Rattle.join_contents.proofs.ContentLaws.{order-S_lifted, order-T_lifted, no_orders}
-use borrow.Author.Rules.{rules}
+use mathlib.Core.Path.{refl}
+use Rattle.join_contents.proofs.ContentLaws.{states-S, states-T, order-there, orders_paired, order-S_lifted, order-T_lifted, no_orders}
+use Rattle.join_contents.proofs.ContentLaws.{orders_pairable}
 use Rattle.join_contents.proofs.put_order.Goals as goal
-
-pub overflow_add-places : goal.overflow_add-places
-overflow_add-places c = omega (arith, places_fit c.requires.pair)
-
-pub overflow_add-places-2 : goal.overflow_add-places-2
-overflow_add-places-2 c = omega (arith, places_fit c.requires.pair)
 
 pub pair_order-requires : goal.pair_order-requires
 pair_order-requires c =
-    let pair = c.requires.pair in
-    search (orders_pairable pair, rules)
-
-pub returns-then-with_order-2 : goal.returns-then-with_order-2
-returns-then-with_order-2 c = search (orders_paired, rules)
+    orders_pairable c.args.rules.now c.sizes-sizes.result c.sizes-sizes.ensures c.order_part-s.result c.order_part-t.result
+    c.order_part-s.ensures.words c.order_part-t.ensures.words c.order_part-s.ensures.at
+    c.order_part-t.ensures.at
+    c.in-true-true.ensures c.in-true-true.ensures' c.requires refl refl
 
 pub lift_order-requires : goal.lift_order-requires
 lift_order-requires c =
-    let pair = c.requires.pair in
-    (pair.few, search (order-there pair.first (states-S pair), rules))
+    order-there c.args.rules.now.s (states-S c.args.rules.now c.sizes-sizes.result c.sizes-sizes.ensures) c.order_part-s.result
+    c.order_part-s.ensures.words c.order_part-s.ensures.at c.in-true-false.ensures refl
 
-pub returns-then-with_order : goal.returns-then-with_order
-returns-then-with_order c = search (order-S_lifted, rules)
+pub lift_order-requires-in-false-true : goal.lift_order-requires-in-false-true
+lift_order-requires-in-false-true c =
+    order-there c.args.rules.now.t (states-T c.args.rules.now c.sizes-sizes.result c.sizes-sizes.ensures) c.order_part-t.result
+    c.order_part-t.ensures.words c.order_part-t.ensures.at c.in-false-true.ensures' refl
 
-pub lift_order-requires-then-with_order-3 : goal.lift_order-requires-then-with_order-3
-lift_order-requires-then-with_order-3 c =
-    let pair = c.requires.pair in
-    (pair.few, search (order-there pair.second (states-T pair), rules))
+pub returns-in-true-true : goal.returns-in-true-true
+returns-in-true-true c =
+    orders_paired c.args.rules.now c.sizes-sizes.result c.sizes-sizes.ensures c.order_part-s.result c.order_part-t.result
+    c.order_part-s.ensures.words c.order_part-t.ensures.words c.order_part-s.ensures.at
+    c.order_part-t.ensures.at
+    c.in-true-true.ensures c.in-true-true.ensures' refl refl c.pair_order.ensures
 
-pub returns-then-with_order-3 : goal.returns-then-with_order-3
-returns-then-with_order-3 c = search (order-T_lifted, rules)
+pub returns-in-true-false : goal.returns-in-true-false
+returns-in-true-false c =
+    order-S_lifted c.args.rules.now c.sizes-sizes.result c.sizes-sizes.ensures c.order_part-s.result c.order_part-t.result
+    c.order_part-s.ensures.words c.order_part-t.ensures.words c.order_part-s.ensures.at
+    c.order_part-t.ensures.at
+    c.in-true-false.ensures c.in-true-false.ensures' refl refl c.lift_order.ensures
 
-pub returns : goal.returns
-returns c = search (no_orders, rules)
+pub returns-in-false-true : goal.returns-in-false-true
+returns-in-false-true c =
+    order-T_lifted c.args.rules.now c.sizes-sizes.result c.sizes-sizes.ensures c.order_part-s.result c.order_part-t.result
+    c.order_part-s.ensures.words c.order_part-t.ensures.words c.order_part-s.ensures.at
+    c.order_part-t.ensures.at
+    c.in-false-true.ensures c.in-false-true.ensures' refl refl c.lift_order-in-false-true.ensures
+
+pub returns-in-false-false : goal.returns-in-false-false
+returns-in-false-false c =
+    no_orders c.args.rules.now c.sizes-sizes.result c.sizes-sizes.ensures c.order_part-s.result c.order_part-t.result
+    c.order_part-s.ensures.words c.order_part-t.ensures.words c.order_part-s.ensures.at
+    c.order_part-t.ensures.at
+    c.in-false-false.ensures c.in-false-false.ensures' c.args.page.now refl refl

@@ -8,6 +8,7 @@ use Rattle.model.specs.Sheet.{Step}
 use Rattle.model.specs.Spans.{CountAt}
 use Rattle.page.proofs.PageLaws.{then, as_words}
 use Rattle.join_count.proofs.CountWords.{count-number, joint-count-words}
+use borrow.Author.Rules.{rules}
 use Rattle.join_count.proofs.join_counts.Goals as goal
 
 -- a count part has one to 32 steps
@@ -15,39 +16,24 @@ small : {p a : ℕ} {s : List ℕ} {ss : List Step} {m : ℕ} → CountAt p s a 
 small h e = (omega (arith, count-number h, h.ranges.some_steps), omega (arith, count-number h, h.ranges.few_steps))
 
 pub overflow_add-m : goal.overflow_add-m
-overflow_add-m c =
-    let (few, in_S, in_T) = c.requires in
-    omega (arith, small in_S.1 c.at-m.ensures, small in_T.1 c.at-n.ensures)
+overflow_add-m c = search (small c.requires.0.1 c.at-m.ensures, small c.requires.1.1 c.at-n.ensures, rules)
 
 pub overflow_add-m-2 : goal.overflow_add-m-2
-overflow_add-m-2 c =
-    let (few, in_S, in_T) = c.requires in
-    omega (arith, small in_S.1 c.at-m.ensures, small in_T.1 c.at-n.ensures)
+overflow_add-m-2 c = search (small c.requires.0.1 c.at-m.ensures, small c.requires.1.1 c.at-n.ensures, rules)
 
-pub lift_steps-upper-requires : goal.lift_steps-upper-requires
-lift_steps-upper-requires c =
-    let (few, in_S, in_T) = c.requires in
-    (record { few = few; shift = omega (arith, small in_S.1 c.at-m.ensures) }, in_T)
+pub invariant_of-of_t : goal.invariant_of-of_t
+invariant_of-of_t c = search (small c.requires.0.1 c.at-m.ensures, rules)
 
 pub overflow_sub-m : goal.overflow_sub-m
-overflow_sub-m c =
-    let (few, in_S, in_T) = c.requires in
-    omega (arith, small in_S.1 c.at-m.ensures)
+overflow_sub-m c = search (small c.requires.0.1 c.at-m.ensures, rules)
 
 pub overflow_sub-n : goal.overflow_sub-n
-overflow_sub-n c =
-    let (few, in_S, in_T) = c.requires in
-    omega (arith, small in_T.1 c.at-n.ensures)
+overflow_sub-n c = search (small c.requires.1.1 c.at-n.ensures, rules)
 
 pub overflow_add-m-3 : goal.overflow_add-m-3
-overflow_add-m-3 c =
-    let (few, in_S, in_T) = c.requires in
-    omega (arith, small in_S.1 c.at-m.ensures, small in_T.1 c.at-n.ensures)
+overflow_add-m-3 c = search (small c.requires.0.1 c.at-m.ensures, small c.requires.1.1 c.at-n.ensures, rules)
 
 pub returns : goal.returns
 returns c = λ ss ts h k.
-    let m = count-number h ∙ sym c.at-m.ensures in
-    let n = count-number k ∙ sym c.at-n.ensures in
-    as_words (joint-count-words _ ss ts m n)
-    (then c.put-counted.ensures
-    (then (c.lift_steps-lower.ensures ss h) (then (c.lift_steps-upper.ensures ts k) c.copy.ensures)))
+    as_words (joint-count-words _ ss ts (count-number h ∙ sym c.at-m.ensures) (count-number k ∙ sym c.at-n.ensures))
+    (then c.put.ensures (then (c.put_steps.ensures ss h) (then (c.put_steps-2.ensures ts k) c.copy.ensures)))

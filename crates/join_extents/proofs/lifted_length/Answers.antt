@@ -19,44 +19,44 @@ few_words s i eo ec l =
     (omega (arith, eo, step-few s i), mul_le _ _ {x = 64} {y = 63} (omega (arith, ec, coefficients-few s i)) (omega arith))
 
 pub overflow_add-i : goal.overflow_add-i
-overflow_add-i c = omega (arith, count-there c.requires.1.1)
+overflow_add-i c = omega (arith, count-there c.requires.1)
 
-pub loop-k-init : goal.loop-k-init
-loop-k-init c = measure_begun c.at-n.ensures refl
+pub loop-init : goal.loop-init
+loop-init c = measure_begun c.at-n.ensures refl
 
 pub overflow_mul-lifted : goal.overflow_mul-lifted
 overflow_mul-lifted c =
-    let (_, _, few) = lifting (side_of c.args.side) c.requires.0 (c.wide-more.ensures ∙ c.of_other.ensures) in
-    omega (arith, few_words c.args.words.now c.loop-k.i c.step_length-own.ensures c.coefficients_at.ensures few)
+    let (_, _, few) = lifting (side_of c.args.side) c.args.sizes.few c.other.ensures in
+    omega (arith, few_words c.args.part.words.now c.loop.i c.step_length-own.ensures c.coefficients_at.ensures few)
 
 pub overflow_add-lifted : goal.overflow_add-lifted
 overflow_add-lifted c =
-    let (_, _, few) = lifting (side_of c.args.side) c.requires.0 (c.wide-more.ensures ∙ c.of_other.ensures) in
-    omega (arith, few_words c.args.words.now c.loop-k.i c.step_length-own.ensures c.coefficients_at.ensures few)
+    let (_, _, few) = lifting (side_of c.args.side) c.args.sizes.few c.other.ensures in
+    omega (arith, few_words c.args.part.words.now c.loop.i c.step_length-own.ensures c.coefficients_at.ensures few)
 
-pub overflow_add-lifted-in-loop-k : goal.overflow_add-lifted-in-loop-k
-overflow_add-lifted-in-loop-k c =
-    let (z, _, few) = lifting (side_of c.args.side) c.requires.0 (c.wide-more.ensures ∙ c.of_other.ensures) in
+pub overflow_add-lifted-in-loop : goal.overflow_add-lifted-in-loop
+overflow_add-lifted-in-loop c =
+    let (z, _, few) = lifting (side_of c.args.side) c.args.sizes.few c.other.ensures in
     omega (
       arith,
-      few_words c.args.words.now c.loop-k.i c.step_length-own.ensures c.coefficients_at.ensures few,
-      measured-few c.loop-k.invariant z c.requires.1.1,
+      few_words c.args.part.words.now c.loop.i c.step_length-own.ensures c.coefficients_at.ensures few,
+      measured-few c.loop.invariant z c.requires.1,
     )
 
-pub overflow_add-i-in-loop-k : goal.overflow_add-i-in-loop-k
-overflow_add-i-in-loop-k c =
-    let (z, _, _) = lifting (side_of c.args.side) c.requires.0 (c.wide-more.ensures ∙ c.of_other.ensures) in
-    omega (arith, c.step_length-own.ensures, step-within c.loop-k.invariant z c.requires.1.1 c.loop-k-test.true)
+pub overflow_add-i-in-loop : goal.overflow_add-i-in-loop
+overflow_add-i-in-loop c =
+    let (z, _, _) = lifting (side_of c.args.side) c.args.sizes.few c.other.ensures in
+    omega (arith, c.step_length-own.ensures, step-within c.loop.invariant z c.requires.1 c.loop-test.true)
 
-pub loop-k-preserved : goal.loop-k-preserved
-loop-k-preserved c =
-    let (_, _, few) = lifting (side_of c.args.side) c.requires.0 (c.wide-more.ensures ∙ c.of_other.ensures) in
-    measure_more c.loop-k.invariant c.loop-k-test.true c.step_length-own.ensures c.coefficients_at.ensures (omega (arith, few)) refl refl
+pub loop-preserved : goal.loop-preserved
+loop-preserved c =
+    let (_, _, few) = lifting (side_of c.args.side) c.args.sizes.few c.other.ensures in
+    measure_more c.loop.invariant c.loop-test.true c.step_length-own.ensures c.coefficients_at.ensures (omega (arith, few)) refl refl
 
 pub returns : goal.returns
 returns c =
-    let (z, _, _) = lifting (side_of c.args.side) c.requires.0 (c.wide-more.ensures ∙ c.of_other.ensures) in
+    let (z, _, _) = lifting (side_of c.args.side) c.args.sizes.few c.other.ensures in
     record {
-      is = λ ss h. measure_done c.loop-k.invariant c.loop-k-test.false z ss h;
-      small = omega (arith, measured-few c.loop-k.invariant z c.requires.1.1);
+      is = λ ss h. measure_done c.loop.invariant c.loop-test.false z ss h;
+      small = omega (arith, measured-few c.loop.invariant z c.requires.1);
     }

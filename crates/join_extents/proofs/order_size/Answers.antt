@@ -2,11 +2,10 @@
 use Rattle.join_extents.proofs.ExtentLaws.{order-there, order_none}
 use Rattle.join_extents.proofs.order_size.Goals as goal
 
-pub returns-then-with_order : goal.returns-then-with_order
-returns-then-with_order c =
-    let (is, small) =
-    order-there c.requires c.with_order.ensures c.if-with_order.true c.field.ensures c.field-then-with_order.ensures in
-    record { is = is; small = small }
+pub returns-then-has_order-clause-is : goal.returns-then-has_order-clause-is
+returns-then-has_order-clause-is c =
+    (order-there c.args.spot.now c.has_order.ensures c.if-has_order.true c.word.ensures c.word-then-has_order.ensures).0
 
-pub returns : goal.returns
-returns c = let (is, small) = order_none c.requires c.with_order.ensures c.if-with_order.false in record { is = is; small = small }
+pub returns-then-has_order-clause-small : goal.returns-then-has_order-clause-small
+returns-then-has_order-clause-small c =
+    (order-there c.args.spot.now c.has_order.ensures c.if-has_order.true c.word.ensures c.word-then-has_order.ensures).1

@@ -1,17 +1,13 @@
--- What the loop of `lift_row` keeps, and its measure.
+-- What the loop of `lift_row` keeps.
 use Prim.Native.Nat.{◌-◌}
-use Rattle.model.specs.Lists.{from, numbers, row}
-use Rattle.model.specs.Compose.{of_other}
+use Rattle.model.specs.Lists.{from, row}
 use Rattle.join_pairs.specs.Sides.{side_of, sizes_of}
-use Rattle.join_order.specs.Orders.{lifted_arc}
+use Rattle.join_order.specs.Orders.{lifted_arc, lifted_row}
 use Rattle.page.proofs.PageLaws.{Left}
 use Rattle.join_order.proofs.lift_row.Given as goal
 
 abbrev pub invariant-loop-other : goal.invariant-loop-other
 invariant-loop-other l =
-    let f = lifted_arc (side_of l.side) (sizes_of l.sizes) in
-    let all = numbers (of_other (side_of l.side) (sizes_of l.sizes)) in
-    Left l.initial.out l.at (row f all l.w) l.out l.next (row f (from (l.n - l.other) l.other) l.w)
-
-abbrev pub decreases-loop-other : goal.decreases-loop-other
-decreases-loop-other l = l.n - l.other
+    let side = side_of l.side in
+    let n = sizes_of l.sizes in
+    Left l.initial.page (lifted_row side n l.word) l.page (row (lifted_arc side n) (from (l.other-end - l.other) l.other) l.word)

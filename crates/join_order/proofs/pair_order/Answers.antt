@@ -1,42 +1,40 @@
 -- `pair_order` meets its contract.
-use native.Mathlib.Omega.{arith}
-use Rattle.page.proofs.PageLaws.{then, as_words}
-use Rattle.join_order.proofs.OrderWords.{pairs_fit, paired_order-words}
+use Rattle.page.proofs.PageLaws.{then, as_words, more, done, rest_next, rest_none, grid-next, grid_none}
+use Rattle.join_order.proofs.OrderWords.{few_arcs, paired_few, paired_positions, paired_order-words}
+use borrow.Author.Rules.{rules}
 use Rattle.join_order.proofs.pair_order.Goals as goal
 
-pub order_head-s-requires : goal.order_head-s-requires
-order_head-s-requires c = let v = c.requires.1 in (_, (v.of_S, v.at_S))
+pub overflow_cast-arcs : goal.overflow_cast-arcs
+overflow_cast-arcs c = let h = c.requires.at_S in search (few_arcs (c.order_of-s.ensures _ _ h) h.ranges, rules)
 
-pub order_head-t-requires : goal.order_head-t-requires
-order_head-t-requires c = let v = c.requires.1 in (_, (v.of_T, v.at_T))
+pub overflow_cast-arcs-2 : goal.overflow_cast-arcs-2
+overflow_cast-arcs-2 c = let h = c.requires.at_T in search (few_arcs (c.order_of-t.ensures _ _ h) h.ranges, rules)
+
+pub overflow_mul-arcs : goal.overflow_mul-arcs
+overflow_mul-arcs c =
+    let h = c.requires.at_S in
+    let k = c.requires.at_T in
+    search (paired_few (c.order_of-s.ensures _ _ h) (c.order_of-t.ensures _ _ k) h.ranges k.ranges, rules)
 
 pub overflow_mul-s : goal.overflow_mul-s
 overflow_mul-s c =
-    let (few, v) = c.requires in
-    let s = c.order_head-s.ensures _ _ v.at_S in
-    let t = c.order_head-t.ensures _ _ v.at_T in
-    omega (arith, (pairs_fit few s t v.at_S.ranges v.at_T.ranges v.few).positions)
+    let h = c.requires.at_S in
+    let k = c.requires.at_T in
+    search (paired_positions (c.order_of-s.ensures _ _ h) (c.order_of-t.ensures _ _ k) c.requires.few, rules)
 
-pub overflow_mul-s-2 : goal.overflow_mul-s-2
-overflow_mul-s-2 c =
-    let (few, v) = c.requires in
-    let s = c.order_head-s.ensures _ _ v.at_S in
-    let t = c.order_head-t.ensures _ _ v.at_T in
-    omega (arith, (pairs_fit few s t v.at_S.ranges v.at_T.ranges v.few).arcs)
+pub pair_row-requires : goal.pair_row-requires
+pair_row-requires c =
+    let h = c.requires.at_T in
+    rw (c.order_of-t.ensures _ _ h).positions h.ranges.few_positions
 
-pub pair_arcs-requires : goal.pair_arcs-requires
-pair_arcs-requires c =
-    let (few, v) = c.requires in
-    let s = c.order_head-s.ensures _ _ v.at_S in
-    let t = c.order_head-t.ensures _ _ v.at_T in
-    (pairs_fit few s t v.at_S.ranges v.at_T.ranges v.few).pairable
+pub loop-v-preserved : goal.loop-v-preserved
+loop-v-preserved c = search (more, grid-next, rest_next, rules)
 
 pub returns : goal.returns
-returns c =
-    let (few, v) = c.requires in
-    λ o u h k.
-    let s = c.order_head-s.ensures _ o h in
-    let t = c.order_head-t.ensures _ u k in
-    let fit = pairs_fit few (c.order_head-s.ensures _ _ v.at_S) (c.order_head-t.ensures _ _ v.at_T) v.at_S.ranges v.at_T.ranges v.few in
-    as_words (paired_order-words few s t h.ranges k.ranges fit c.pair_set-accepting.ensures)
-    (then c.put_head-begun.ensures c.pair_arcs.ensures)
+returns c = λ o u h k.
+    let v = c.requires in
+    let fit = paired_positions (c.order_of-s.ensures _ _ v.at_S) (c.order_of-t.ensures _ _ v.at_T) v.few in
+    let s = c.order_of-s.ensures _ o h in
+    let t = c.order_of-t.ensures _ u k in
+    as_words (paired_order-words s t c.args.sizes.few h.ranges k.ranges fit c.pair_set-accepting.ensures)
+    (then c.put_head.ensures (search (done, grid_none, rest_none, rules)))

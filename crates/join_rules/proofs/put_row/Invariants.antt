@@ -1,19 +1,17 @@
--- The loop of `put_row` keeps: what is written, and the words of the rules from j on, are those of the whole row.
+-- The loop of `put_row` keeps: what is written, and the words of the pairs that are left, are those of the whole row.
+use mathlib.Core.Path.{◌≡◌}
 use mathlib.Core.List.{flat_map}
-use Prim.Native.Nat.{◌-◌}
 use Rattle.model.specs.Sheet.{rule_words}
 use Rattle.model.specs.Compose.{of_pairs}
 use Rattle.page.proofs.PageLaws.{Left}
-use Rattle.join_alike.specs.Alike.{sizes_in}
-use Rattle.join_alike.proofs.AlikeLaws.{InRow, row_from}
+use Rattle.join_alike.specs.Alike.{row_sizes, joint_left, FewPositions}
 use Rattle.join_rules.specs.Written.{row_words}
 use Rattle.join_rules.proofs.put_row.Given as goal
 
-abbrev pub invariant-loop-j : goal.invariant-loop-j
-invariant-loop-j l =
-    InRow l.first l.second l.index (record { rule = l.x; sizes = l.sizes; others = l.n }) l.j
-    × Left l.initial.out l.at (row_words l.first l.second l.x) l.out l.next
-    (flat_map (rule_words (of_pairs (sizes_in l.first l.second))) (row_from l.first l.second l.x l.j))
-
-abbrev pub decreases-loop-j : goal.decreases-loop-j
-decreases-loop-j l = l.n - l.j
+abbrev pub invariant-loop-rules : goal.invariant-loop-rules
+invariant-loop-rules l =
+    (goal.iterator-loop-rules).can_next l.rules-iterator
+    × (goal.iterator-loop-rules).is_finite l.rules-iterator
+    × (l.rules-iterator.row ≡ l.fn.row)
+    × FewPositions (joint_left l.rules-iterator)
+    × Left l.initial.page (row_words l.fn.row) l.page (flat_map (rule_words (of_pairs (row_sizes l.fn.row))) (joint_left l.rules-iterator))

@@ -1,10 +1,10 @@
 -- `put_texts` meets its contract.
-use Rattle.join_rules.proofs.RuleLaws.{text_states, text_written}
-use borrow.Author.Rules.{rules}
+use Rattle.page.proofs.PageLaws.{as_words}
+use Rattle.join_rules.proofs.RuleLaws.{text_states, text_words}
 use Rattle.join_rules.proofs.put_texts.Goals as goal
 
 pub joint_state-target-requires : goal.joint_state-target-requires
-joint_state-target-requires c = search (text_states, rules)
+joint_state-target-requires c = text_states c.args.rules.now c.requires
 
 pub returns : goal.returns
-returns c = search (text_written, rules)
+returns c = as_words (text_words c.args.rules.now c.requires c.word-kind.ensures c.joint_state-target.ensures) c.copy.ensures
