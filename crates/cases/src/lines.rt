@@ -1,83 +1,84 @@
-// Lines: comments, named values and cases. Each is lent as the input up to its end, with its line feed.
+// Lines: comments, named values and cases. Each is lent with its line feed.
 use crate::run::run;
-use cases_scan::{byte_at, bytes_of, line_end, named_at};
-use cases_store::buffers::{front, sevens};
-use cases_store::store::{STORE_WORDS, Store, define, part, push_words, word_at};
-use cases_values::calls::{BYTES_ROOM, room_of};
-use cases_values::contents::content;
-use cases_values::values::{Values, value_of};
+use cases_scan::{Unreadable, at, front, in_one_line, part, split_name};
+use cases_store::buffers::MOST;
+use cases_store::store::Store;
+use cases_values::calls::Room;
+use cases_values::contents::{Case, Content};
 use std::rt::Files;
 
 // ---- cases
 
-// Makes the call of a case, which is lent as much of a buffer as its values say, and prints its answer and that buffer; a buffer of
-// bytes is printed where they are at hand.
-fn answered(words: &Store, v: Values, out: &mut [u32]) -> usize {
-    let room = room_of(v.call);
-    let lent = front(out, word_at(value_of(words, v, room), 0) as usize);
-    let kept = run(words, v, lent);
-    if room < BYTES_ROOM {
-        cases_print::words(lent);
+// How many words or bytes of a buffer a case is lent.
+fn room(store: &Store, case: &Case) -> usize {
+    match case.call.room() {
+        Some(Room::Words(k) | Room::Bytes(k)) => at(case.values.words(store, k), 0) as usize,
+        None => 0,
     }
-    if lent.len() < kept {
-        return 0;
-    }
-    kept
 }
 
-// Makes the call of a line that begins at `from`, between what is printed of it: what is before its comment, and the comment. What the
-// answer counts of the lent buffer is kept on top of the store; its new top, STORE_WORDS where it is full.
-fn case(line: &[u8], words: &mut Store, from: usize, v: Values) -> usize {
-    let mut out = sevens();
-    cases_print::before_answer(line, from, v.comment);
-    let kept = answered(words, v, &mut out);
-    cases_print::after_answer(line, v.comment);
-    push_words(words, v.start, part(&out, 0, kept))
+// Makes the call of a case, and prints its answer and the lent buffer; a buffer of bytes is printed where they are at hand. What the
+// answer counts of the lent buffer.
+fn answered<'b>(store: &Store, case: &Case, out: &'b mut [u32]) -> &'b [u32] {
+    let lent = front(out, room(store, case));
+    let kept = run(store, case, lent);
+    if let Some(Room::Words(_)) = case.call.room() {
+        cases_print::words(lent);
+    }
+    part(lent, 0, kept)
+}
+
+// Makes the call of a line, between what is printed of it: what is before its comment, and the comment. What the answer counts of the
+// lent buffer is put on the store, whose words from `start` on are the case's values.
+fn make_call(store: &mut Store, line: &[u8], case: &Case, start: usize) -> Result<(), Unreadable> {
+    let mut out = [7; MOST];
+    cases_print::before_answer(line, case.comment);
+    let kept = answered(store, case, &mut out);
+    cases_print::after_answer(case.comment);
+    store.truncate(start);
+    store.extend(kept.iter().copied())
 }
 
 // ---- lines
 
-// Prints a line that begins at `from`, by its values; the new top of the store, STORE_WORDS where it is full or was before.
-fn by_values(line: &[u8], words: &mut Store, from: usize, v: Values) -> usize {
-    if v.top == STORE_WORDS {
-        return STORE_WORDS;
+// Prints a line that is no comment, with the answer where it is a case. What it names is put on the store.
+fn named_or_case<'a, R: Files>(
+    rt: &R,
+    store: &mut Store<'a>,
+    line: &'a [u8],
+) -> Result<(), Unreadable> {
+    let start = store.top();
+    let named = split_name(line);
+    let written = named.map_or(line, |(_, written)| written);
+    match Content::read(rt, store, written)? {
+        Content::Case(case) => make_call(store, line, &case, start)?,
+        Content::Value if named.is_some() => cases_print::line(line),
+        Content::Value => return Err(Unreadable),
     }
-    if v.call == 0 {
-        cases_print::line(line, from);
-        return v.top;
-    }
-    case(line, words, from, v)
-}
-
-// Prints the line that begins at an index, with the answer where it is a case; the new top of the store.
-fn line<R: Files>(rt: &R, line: &[u8], words: &mut Store, from: usize, top: usize) -> usize {
-    let b = byte_at(line, from);
-    if (b == b'\n') | (b == b'#') {
-        cases_print::line(line, from);
-        return top;
-    }
-    let at = named_at(line, from);
-    let v = content(rt, line, words, from, at, top);
-    let end = by_values(line, words, from, v);
-    if end == STORE_WORDS {
-        cases_print::unreadable_line(line, from);
-        return top;
-    }
-    if at == from {
-        return top;
-    }
-    define(words, top, end, from)
-}
-
-pub(crate) fn all<R: Files>(rt: &R, text: &[u8], words: &mut Store) {
-    let mut from = 0;
-    let mut top = 0;
-    while from < text.len() {
-        let end = line_end(text, from);
-        top = line(rt, bytes_of(text, 0, end), words, from, top);
-        if end <= from {
-            return;
+    match named {
+        Some((name, _)) => store.define(name, start),
+        None => {
+            store.truncate(start);
+            Ok(())
         }
-        from = end;
+    }
+}
+
+// Prints a line, with the answer where it is a case.
+fn any_line<'a, R: Files>(rt: &R, store: &mut Store<'a>, line: &'a [u8]) {
+    if let [b'\n' | b'#', ..] = line {
+        cases_print::line(line);
+        return;
+    }
+    let top = store.top();
+    if named_or_case(rt, store, line).is_err() {
+        store.truncate(top);
+        cases_print::unreadable_line(line);
+    }
+}
+
+pub(crate) fn all<'a, R: Files>(rt: &R, store: &mut Store<'a>, text: &'a [u8]) {
+    for line in text.chunk_by(in_one_line) {
+        any_line(rt, store, line);
     }
 }

@@ -2,26 +2,18 @@
 // written and what is printed.
 #![tactic(auto)]
 
-ghost use Rattle.std.specs.Prelude.{◌≡◌, length};
-
 mod lines;
 mod run;
 
-use cases_store::store::STORE_WORDS;
+use cases_store::store::Store;
 
 const STDIN: i32 = 0;
 
-const INPUT_BYTES: usize = 98304;
-
-fn input_array() -> [u8; INPUT_BYTES]
-    ensures { 98304 ≡ length result }
-{
-    [0; INPUT_BYTES]
-}
+const INPUT_BYTES: usize = 98_304;
 
 fn main(rt: HostRuntime) {
-    let mut text = input_array();
-    let mut words = [0u32; STORE_WORDS];
+    let mut text = [0; INPUT_BYTES];
     let n = io::read_full(STDIN, &mut text);
-    lines::all(&rt, &text[..n], &mut words);
+    let mut store = Store::new();
+    lines::all(&rt, &mut store, &text[..n]);
 }

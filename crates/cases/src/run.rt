@@ -1,71 +1,47 @@
-// The calls, on the values of a case. Each prints its answer, and gives how many words of the lent buffer that counts.
+// The calls, on the values of a case.
 use cases_print::{answer, judgement, text};
-use cases_scan::bytes_of;
-use cases_store::buffers::{front_bytes, narrowed, no_bytes};
-use cases_store::store::{Store, word_at};
-use cases_values::calls::{JUDGE, NAMES, READ, SHEET, SHEET_FROM_FILE, SWAP, TREE, VERDICT, WRITE};
-use cases_values::values::{Values, value_of};
-
-// ---- calls on words
-
-fn on_words(call: usize, x: &[u32], y: &[u32], out: &mut [u32]) -> usize {
-    match call {
-        TREE => answer(tree::check(y, word_at(x, 0))),
-        SHEET => answer(sheet::check(x)),
-        JUDGE => judgement(judge::judge(x, y, out)),
-        SWAP => answer(compose::swap(x, out)),
-        _ => answer(compose::join(x, y, out)),
-    }
-}
-
-// ---- calls on bytes
-
-// The words of the nodes that are read.
-fn read(list: &[u8], text: &[u8], out: &mut [u32]) -> usize {
-    answer(reader::read(list, text, out)) % 66000 * 4
-}
+use cases_scan::{at, front};
+use cases_store::buffers::{LowBytes, MOST, widen};
+use cases_store::store::Store;
+use cases_values::calls::Call;
+use cases_values::contents::Case;
 
 // Writes to as many bytes as `out` has words, prints them, and puts each into a word.
 fn write(list: &[u8], source: &[u8], tree: &[u32], out: &mut [u32]) -> usize {
-    let mut bytes = no_bytes();
-    let lent = front_bytes(&mut bytes, out.len());
-    let n = answer(writer::write(list, source, tree, lent));
-    text(lent, out);
-    n
+    let mut bytes = [b'.'; MOST];
+    let lent = front(&mut bytes, out.len());
+    let count = answer(writer::write(list, source, tree, lent));
+    text(lent);
+    widen(lent, out);
+    count
 }
 
-// The third value is given as bytes and as words.
-fn with_bytes(call: usize, a: &[u8], b: &[u8], c: &[u8], z: &[u32], out: &mut [u32]) -> usize {
-    match call {
-        NAMES => answer(names::check(a)),
-        READ => read(a, b, out),
-        WRITE => write(a, b, z, out),
-        SHEET_FROM_FILE => answer(sheet::from_file(a, out)),
-        _ => judgement(verdict::check(a, b, c)),
+// Makes a call, prints its answer, and gives how many words of the lent buffer that counts.
+pub(crate) fn run(store: &Store, case: &Case, out: &mut [u32]) -> usize {
+    let words = |k: usize| case.values.words(store, k);
+    let bytes = |k: usize| LowBytes::new(words(k));
+    match case.call {
+        Call::Names => answer(names::check(bytes(0).as_slice())),
+        Call::Read => {
+            answer(reader::read(bytes(0).as_slice(), bytes(1).as_slice(), out)).saturating_mul(4)
+        }
+        Call::Write => write(bytes(0).as_slice(), bytes(1).as_slice(), words(2), out),
+        Call::SheetFromFile => answer(sheet::from_file(bytes(0).as_slice(), out)),
+        Call::Verdict => {
+            judgement(verdict::check(
+                bytes(0).as_slice(),
+                bytes(1).as_slice(),
+                bytes(2).as_slice(),
+            ));
+            0
+        }
+        Call::Tree => answer(tree::check(words(1), at(words(0), 0))),
+        Call::Sheet => answer(sheet::check(words(0))),
+        Call::Judge => {
+            judgement(judge::judge(words(0), words(1), out));
+            0
+        }
+        Call::Swap => answer(compose::swap(words(0), out)),
+        Call::Join => answer(compose::join(words(0), words(1), out)),
     }
-}
-
-fn on_bytes(call: usize, x: &[u32], y: &[u32], z: &[u32], out: &mut [u32]) -> usize {
-    let a = narrowed(x);
-    let b = narrowed(y);
-    let c = narrowed(z);
-    with_bytes(
-        call,
-        bytes_of(&a, 0, x.len()),
-        bytes_of(&b, 0, y.len()),
-        bytes_of(&c, 0, z.len()),
-        z,
-        out,
-    )
-}
-
-// ---- the call of a case
-
-pub(crate) fn run(words: &Store, v: Values, out: &mut [u32]) -> usize {
-    let x = value_of(words, v, 0);
-    let y = value_of(words, v, 1);
-    if v.call <= VERDICT {
-        return on_bytes(v.call, x, y, value_of(words, v, 2), out);
-    }
-    on_words(v.call, x, y, out)
 }

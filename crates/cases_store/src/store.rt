@@ -1,137 +1,153 @@
-// The store: the words of values, one value after the other. After the words of a named value there are two more: where its name begins in
-// the input, and where its words begin. So names are looked for from the top down.
-use cases_scan::{byte_at, bytes_of, wide, word_end};
+// The store: the words of values, one value after the other, and where those of a named value are.
+ghost use Rattle.std.specs.Iterator.{IsFinite};
 
-pub const STORE_WORDS: usize = 262144;
+use cases_scan::{Unreadable, at};
 
-pub type Store = [u32; STORE_WORDS];
+const STORE_WORDS: usize = 262_144;
 
-// The word at an index, 0 past the end.
-pub fn word_at(words: &[u32], i: usize) -> u32 {
-    if i < words.len() {
-        return words[i];
-    }
-    0
+// The most values that have a name: more than the input has lines that name one.
+const MOST_NAMED: usize = 20_480;
+
+// The indices from one up to another.
+#[derive(Clone, Copy, Default)]
+pub struct Part {
+    pub from: usize,
+    pub to: usize,
 }
 
-pub fn stored(words: &Store, i: usize) -> u32 {
-    if i < STORE_WORDS {
-        return words[i];
-    }
-    0
+#[derive(Clone, Copy)]
+struct Named<'a> {
+    name: &'a [u8],
+    part: Part,
 }
 
-// The words from an index up to another, or none where there is no such part.
-pub fn part<'a>(words: &'a [u32], from: usize, to: usize) -> &'a [u32] {
-    if words.len() < to {
-        return &words[..0];
-    }
-    if to < from {
-        return &words[..0];
-    }
-    &words[from..to]
+// There is no heap: each array has the number of its elements that are in use beside it.
+#[derive(Drop)]
+pub struct Store<'a> {
+    words: [u32; STORE_WORDS],
+    top: usize,
+    named: [Named<'a>; MOST_NAMED],
+    named_count: usize,
 }
 
-// ---- words on top: each function gives the new top, which is STORE_WORDS where the store is full
-
-pub fn push(words: &mut Store, top: usize, word: u32) -> usize {
-    if top < STORE_WORDS {
-        words[top] = word;
-        return top + 1;
-    }
-    STORE_WORDS
-}
-
-// A word for each byte.
-pub fn push_bytes(words: &mut Store, top: usize, bytes: &[u8]) -> usize {
-    let mut end = top;
-    let mut i = 0;
-    while i < bytes.len() {
-        end = push(words, end, wide(byte_at(bytes, i)));
-        i += 1;
-    }
-    end
-}
-
-pub fn push_words(words: &mut Store, top: usize, more: &[u32]) -> usize {
-    let mut end = top;
-    let mut i = 0;
-    while i < more.len() {
-        end = push(words, end, word_at(more, i));
-        i += 1;
-    }
-    end
-}
-
-// A word; or its four bytes, lowest first.
-fn push_word(words: &mut Store, top: usize, word: u32, as_bytes: bool) -> usize {
-    if !as_bytes {
-        return push(words, top, word);
-    }
-    let mut end = top;
-    let mut rest = word;
-    let mut k: usize = 0;
-    while k < 4 {
-        end = push(words, end, rest % 256);
-        rest /= 256;
-        k += 1;
-    }
-    end
-}
-
-// The words from an index up to another once more; or their bytes.
-pub fn push_again(words: &mut Store, top: usize, from: usize, to: usize, as_bytes: bool) -> usize {
-    let mut end = top;
-    let mut i = from;
-    while i < to {
-        end = push_word(words, end, stored(words, i), as_bytes);
-        i += 1;
-    }
-    end
-}
-
-// The words from an index up to the top, that many times in all.
-pub fn repeat(words: &mut Store, from: usize, top: usize, times: u32) -> usize {
-    if (times == 0) & (top < STORE_WORDS) {
-        return from;
-    }
-    let mut end = top;
-    let mut k = 1;
-    while k < times {
-        if STORE_WORDS <= end {
-            return STORE_WORDS;
+impl<'a> Store<'a> {
+    pub fn new() -> Store<'a> {
+        let unnamed = Named {
+            name: &[],
+            part: Part::default(),
+        };
+        Store {
+            words: [0; STORE_WORDS],
+            top: 0,
+            named: [unnamed; MOST_NAMED],
+            named_count: 0,
         }
-        end = push_again(words, end, from, top, false);
-        k += 1;
     }
-    end
-}
 
-// ---- names
-
-fn low(n: usize) -> u32 {
-    (n % 4294967296) as u32
-}
-
-// Gives the words from an index up to the top the name that begins at an index of the input.
-pub fn define(words: &mut Store, from: usize, top: usize, name: usize) -> usize {
-    let named = push(words, top, low(name));
-    push(words, named, low(from))
-}
-
-// The index after the last named value below a top that has a name, or 0. Its words are before its last two.
-pub fn find(line: &[u8], words: &Store, top: usize, name: &[u8]) -> usize {
-    let mut end = top;
-    while 1 < end {
-        let first = stored(words, end - 2) as usize;
-        if offsets::same_bytes(bytes_of(line, first, word_end(line, first)), name) {
-            return end;
-        }
-        let below = stored(words, end - 1) as usize;
-        if end <= below {
-            return 0;
-        }
-        end = below;
+    // Where the next word goes.
+    pub fn top(&self) -> usize {
+        self.top
     }
-    0
+
+    // The word at an index, 0 where there is none.
+    fn word(&self, i: usize) -> u32 {
+        at(&self.words, i)
+    }
+
+    // The words from an index up to the top.
+    pub fn part_from(&self, from: usize) -> Part {
+        Part { from, to: self.top }
+    }
+
+    // The words of a part, or none where there is no such part.
+    pub fn words(&self, part: Part) -> &[u32] {
+        cases_scan::part(&self.words, part.from, part.to)
+    }
+
+    // ---- words on top
+
+    // Drops the words from an index on.
+    pub fn truncate(&mut self, top: usize) {
+        self.top = self.top.min(top);
+    }
+
+    pub fn push(&mut self, word: u32) -> Result<(), Unreadable> {
+        let top = self.top;
+        *self.words.get_mut(top).ok_or(Unreadable)? = word;
+        self.top = top + 1;
+        Ok(())
+    }
+
+    // A word for each item.
+    pub fn extend<I: Iterator + Drop>(&mut self, items: I) -> Result<(), Unreadable>
+    where
+        u32: From<I::Item>,
+        requires can { I.can_next items }
+        requires ends { IsFinite (I.remaining items) }
+    {
+        for item in items {
+            self.push(u32::from(item))?;
+        }
+        Ok(())
+    }
+
+    // The words of a part once more.
+    pub fn push_again(&mut self, part: Part) -> Result<(), Unreadable> {
+        for i in part.from..part.to {
+            self.push(self.word(i))?;
+        }
+        Ok(())
+    }
+
+    // The bytes of the words of a part, each word's lowest first.
+    pub fn push_bytes_of(&mut self, part: Part) -> Result<(), Unreadable> {
+        for i in part.from..part.to {
+            self.extend(self.word(i).to_le_bytes().into_iter())?;
+        }
+        Ok(())
+    }
+
+    // The words from an index up to the top, that many times in all.
+    pub fn repeat(&mut self, from: usize, times: u32) -> Result<(), Unreadable> {
+        let item = self.part_from(from);
+        if times == 0 {
+            self.truncate(from);
+        }
+        for _ in 1..times {
+            self.push_again(item)?;
+        }
+        Ok(())
+    }
+
+    // The last word from an index on becomes 256 times itself, and a byte.
+    pub fn shift(&mut self, from: usize, byte: u8) -> Result<(), Unreadable> {
+        let to = self.top;
+        let item = self.words.get_mut(from..to).ok_or(Unreadable)?;
+        let word = item.last_mut().ok_or(Unreadable)?;
+        *word = *word << 8 | u32::from(byte);
+        Ok(())
+    }
+
+    // ---- names
+
+    // Gives the words from an index up to the top a name.
+    pub fn define(&mut self, name: &'a [u8], from: usize) -> Result<(), Unreadable> {
+        let part = self.part_from(from);
+        let count = self.named_count;
+        *self.named.get_mut(count).ok_or(Unreadable)? = Named { name, part };
+        self.named_count = count + 1;
+        Ok(())
+    }
+
+    // The words that were last given a name.
+    pub fn find(&self, name: &[u8]) -> Result<Part, Unreadable> {
+        let named = self
+            .named
+            .iter()
+            .take(self.named_count)
+            .rev()
+            .find(|named| named.name == name)
+            .ok_or(Unreadable)?;
+        Ok(named.part)
+    }
 }

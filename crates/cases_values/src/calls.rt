@@ -1,66 +1,65 @@
 // The calls by their names, and what they take.
+use cases_scan::Unreadable;
 
-// the calls whose first value is bytes
-pub const NAMES: usize = 1;
+#[derive(Clone, Copy)]
+pub enum Call {
+    Names,
+    Read,
+    Write,
+    SheetFromFile,
+    Verdict,
+    Tree,
+    Sheet,
+    Judge,
+    Swap,
+    Join,
+}
 
-pub const READ: usize = 2;
+impl<'a> TryFrom<&'a [u8]> for Call {
+    type Error = Unreadable;
 
-pub const WRITE: usize = 3;
-
-pub const SHEET_FROM_FILE: usize = 4;
-
-pub const VERDICT: usize = 5;
-
-// the calls on words alone
-pub const TREE: usize = 6;
-
-pub const SHEET: usize = 7;
-
-pub const JUDGE: usize = 8;
-
-pub const SWAP: usize = 9;
-
-pub const JOIN: usize = 10;
-
-// the names in the order of these numbers
-const CALLS: [u8; 68] =
-    *b"names\nread\nwrite\nsheet_from_file\nverdict\ntree\nsheet\njudge\nswap\njoin\n";
-
-// The call of a name, 0 where there is none.
-pub fn call_of(name: &[u8]) -> usize {
-    let mut tags = [0usize; tags::ENTRIES];
-    let count = offsets::index(&CALLS, &mut tags);
-    let mut call = 0;
-    while call < count {
-        call += 1;
-        if offsets::same_bytes(tags::name_of(&CALLS, &tags, call), name) {
-            return call;
+    fn try_from(name: &'a [u8]) -> Result<Call, Unreadable> {
+        match name {
+            b"names" => Ok(Call::Names),
+            b"read" => Ok(Call::Read),
+            b"write" => Ok(Call::Write),
+            b"sheet_from_file" => Ok(Call::SheetFromFile),
+            b"verdict" => Ok(Call::Verdict),
+            b"tree" => Ok(Call::Tree),
+            b"sheet" => Ok(Call::Sheet),
+            b"judge" => Ok(Call::Judge),
+            b"swap" => Ok(Call::Swap),
+            b"join" => Ok(Call::Join),
+            _ => Err(Unreadable),
         }
     }
-    0
 }
 
-// How many values a call takes; one, where a value is named.
-pub fn values_of(call: usize) -> usize {
-    match call {
-        TREE | SHEET_FROM_FILE | SWAP => 2,
-        READ | JUDGE | JOIN | VERDICT => 3,
-        WRITE => 4,
-        _ => 1,
+// Which value of a call is the room of the buffer that it is lent, by what that is a buffer of.
+#[derive(Clone, Copy)]
+pub enum Room {
+    Words(usize),
+    Bytes(usize),
+}
+
+impl Call {
+    // How many values the call takes.
+    pub fn value_count(self) -> usize {
+        match self {
+            Call::Names | Call::Sheet => 1,
+            Call::Tree | Call::SheetFromFile | Call::Swap => 2,
+            Call::Read | Call::Judge | Call::Join | Call::Verdict => 3,
+            Call::Write => 4,
+        }
     }
-}
 
-// where the room stands of a buffer of bytes, and of none
-pub const BYTES_ROOM: usize = 3;
-
-const NO_ROOM: usize = 9;
-
-// Which value of a call is the room of the buffer that it is lent.
-pub fn room_of(call: usize) -> usize {
-    match call {
-        SHEET_FROM_FILE | SWAP => 1,
-        READ | JUDGE | JOIN => 2,
-        WRITE => BYTES_ROOM,
-        _ => NO_ROOM,
+    // The room of the buffer that the call is lent, if it is lent one.
+    pub fn room(self) -> Option<Room> {
+        match self {
+            Call::Names | Call::Verdict | Call::Tree | Call::Sheet => None,
+            Call::SheetFromFile | Call::Swap => Some(Room::Words(1)),
+            Call::Read | Call::Judge | Call::Join => Some(Room::Words(2)),
+            Call::Write => Some(Room::Bytes(3)),
+        }
     }
 }

@@ -1,32 +1,59 @@
-// What a line has after its name, if it has one: a call, its values and a comment; or a value.
-use crate::calls::{call_of, values_of};
+// What a line has after its name, if it has one.
+use crate::calls::Call;
 use crate::values::{Values, read_values};
-use cases_scan::{byte_at, bytes_of, is_lower, word_end};
-use cases_store::store::{STORE_WORDS, Store};
+use cases_scan::{Unreadable, at, split_word};
+use cases_store::store::Store;
 use std::rt::Files;
 
-// Whether values are as many as their call takes, and have a comment after them where there is a call.
-fn fit(v: Values) -> bool {
-    (v.count == values_of(v.call)) & ((v.call == 0) | (v.comment != 0))
+// A call, its values, and the comment behind them.
+#[derive(Clone, Copy)]
+pub struct Case<'a> {
+    pub call: Call,
+    pub values: Values<'a>,
+    pub comment: &'a [u8],
 }
 
-// What begins at an index of a line that begins at `from`: its call, and its values, put on top of the store, which is full where they
-// can't be read.
-pub fn content<R: Files>(
-    rt: &R,
-    line: &[u8],
-    words: &mut Store,
-    from: usize,
-    at: usize,
-    top: usize,
-) -> Values {
-    let is_call = is_lower(byte_at(line, at));
-    let end = if is_call { word_end(line, at) } else { at };
-    let call = call_of(bytes_of(line, at, end));
-    let mut v = read_values(rt, line, words, end, top);
-    v.call = call;
-    if !fit(v) | ((call == 0) & (is_call | (at == from))) {
-        v.top = STORE_WORDS;
+impl<'a> Case<'a> {
+    fn read<R: Files>(
+        rt: &R,
+        store: &mut Store,
+        written: &'a [u8],
+    ) -> Result<Case<'a>, Unreadable> {
+        let (name, written) = split_word(written);
+        let call = Call::try_from(name)?;
+        let values = read_values(rt, store, written)?;
+        if values.count != call.value_count() {
+            return Err(Unreadable);
+        }
+        let comment = values.comment.ok_or(Unreadable)?;
+        Ok(Case {
+            call,
+            values,
+            comment,
+        })
     }
-    v
+}
+
+#[derive(Clone, Copy)]
+pub enum Content<'a> {
+    Value,
+    Case(Case<'a>),
+}
+
+impl<'a> Content<'a> {
+    // The value or case that is written, with its words on top of the store.
+    pub fn read<R: Files>(
+        rt: &R,
+        store: &mut Store,
+        written: &'a [u8],
+    ) -> Result<Content<'a>, Unreadable> {
+        if at(written, 0).is_ascii_lowercase() {
+            return Ok(Content::Case(Case::read(rt, store, written)?));
+        }
+        let values = read_values(rt, store, written)?;
+        if values.count != 1 {
+            return Err(Unreadable);
+        }
+        Ok(Content::Value)
+    }
 }

@@ -1,0 +1,151 @@
+// The tokens of a line.
+ghost use Rattle.std.specs.Prelude.{◌≡◌, ◌≤◌, ◌<◌, length, MatchOption};
+ghost use Rattle.std.specs.Iterator.{at_most};
+
+use crate::{Unreadable, in_word, part};
+
+// ---- texts
+
+// A text from after its quotation mark on. Its bytes come one after the other, up to where no text goes on, as at the other mark.
+#[derive(Clone, Copy)]
+pub struct Text<'a> {
+    written: &'a [u8],
+}
+
+impl<'a> Iterator for Text<'a> {
+    type Item = u8;
+
+    ghost next_gives = { λ s byte t. MatchOption byte (t ≡ s) (λ _. length t.written.now < length s.written.now) };
+
+    ghost remaining = { λ s. at_most (length s.written.now) };
+
+    fn next(&mut self) -> Option<u8> {
+        let (byte, rest) = match self.written {
+            [b'\\', b'n', rest @ ..] => (b'\n', rest),
+            [b'\\', b'r', rest @ ..] => (b'\r', rest),
+            [b'\\', b't', rest @ ..] => (b'\t', rest),
+            [b'\\', byte @ (b'"' | b'\\'), rest @ ..] => (*byte, rest),
+            [] | [b'"' | b'\\' | b'#' | b'\n', ..] => return None,
+            [byte, rest @ ..] => (*byte, rest),
+        };
+        self.written = rest;
+        Some(byte)
+    }
+}
+
+// ---- tokens
+
+#[derive(Clone, Copy)]
+pub enum Item<'a> {
+    // a number, or the two's complement of one
+    Number(u32),
+    Text(Text<'a>),
+    // what begins with a capital, and what follows an at sign
+    Name(&'a [u8]),
+    File(&'a [u8]),
+}
+
+#[derive(Clone, Copy)]
+pub enum Token<'a> {
+    Item(Item<'a>),
+    // how many times the last item stands
+    Times(u32),
+    // what is put behind the last word, as its low byte
+    Over(u32),
+    // a parenthesis
+    Open,
+    Close,
+    Comma,
+    // the line from a number sign on
+    Comment(&'a [u8]),
+}
+
+// What is left of a line, whose tokens come one after the other.
+#[derive(Drop)]
+pub struct Tokens<'a> {
+    rest: &'a [u8],
+}
+
+impl<'a> Tokens<'a> {
+    pub fn new(line: &'a [u8]) -> Tokens<'a> {
+        Tokens { rest: line }
+    }
+
+    // Goes to the first byte that fails a test; the bytes from `start` on up to there. No line ends before such a byte.
+    fn up_to<F: Fn(u8) -> bool>(&mut self, start: &'a [u8], test: F) -> Result<&'a [u8], Unreadable>
+        requires { F.IsAlwaysCallable test }
+        ensures { length self.new.rest.now ≤ length self.old.rest.now }
+    {
+        let n = self
+            .rest
+            .iter()
+            .position(|byte| !test(*byte))
+            .ok_or(Unreadable)?;
+        self.rest = &self.rest[n..];
+        Ok(part(start, 0, start.len().saturating_sub(self.rest.len())))
+    }
+
+    fn number(&mut self, start: &'a [u8]) -> Result<u32, Unreadable>
+        ensures { length self.new.rest.now ≤ length self.old.rest.now }
+    {
+        let digits = self.up_to(start, |byte| byte.is_ascii_digit())?;
+        str::from_utf8(digits)
+            .or(Err(Unreadable))?
+            .parse::<u32>()
+            .or(Err(Unreadable))
+    }
+
+    fn text(&mut self) -> Result<Text<'a>, Unreadable>
+        ensures { length self.new.rest.now ≤ length self.old.rest.now }
+    {
+        let text = Text { written: self.rest };
+        let mut end = text;
+        while end.next().is_some() {}
+        self.rest = end.written.strip_prefix(b"\"").ok_or(Unreadable)?;
+        Ok(text)
+    }
+
+    // The token that begins with a byte, at the front of `start`; what is left is what stands after that byte.
+    fn token(&mut self, first: u8, start: &'a [u8]) -> Result<Token<'a>, Unreadable>
+        ensures { length self.new.rest.now ≤ length self.old.rest.now }
+    {
+        let after = self.rest;
+        Ok(match first {
+            b'0'..=b'9' => Token::Item(Item::Number(self.number(start)?)),
+            b'-' => Token::Item(Item::Number(self.number(after)?.wrapping_neg())),
+            b'*' => {
+                self.up_to(after, |byte| byte == b' ')?;
+                Token::Times(self.number(self.rest)?)
+            }
+            b'/' => Token::Over(self.number(after)?),
+            b'"' => Token::Item(Item::Text(self.text()?)),
+            b'A'..=b'Z' => Token::Item(Item::Name(self.up_to(start, in_word)?)),
+            b'@' => Token::Item(Item::File(self.up_to(after, in_word)?)),
+            b'(' => Token::Open,
+            b')' => Token::Close,
+            b',' => Token::Comma,
+            b'#' => {
+                self.up_to(after, |byte| byte != b'\n')?;
+                Token::Comment(start)
+            }
+            _ => return Err(Unreadable),
+        })
+    }
+}
+
+impl<'a> Iterator for Tokens<'a> {
+    type Item = Result<Token<'a>, Unreadable>;
+
+    ghost remaining = { λ s. at_most (length s.rest.now) };
+
+    fn next(&mut self) -> Option<Result<Token<'a>, Unreadable>> {
+        let white = self
+            .rest
+            .iter()
+            .position(|byte| !matches!(byte, b' ' | b'\n' | b'|'))?;
+        let start = &self.rest[white..];
+        let (first, after) = start.split_first()?;
+        self.rest = after;
+        Some(self.token(*first, start))
+    }
+}
