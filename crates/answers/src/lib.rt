@@ -111,6 +111,7 @@ impl From<Result<usize, Refusal>> for Numbers {
     }
 }
 
+// kept: one impl of this and the one above would need a `From` a bare number, which is no answer by itself
 impl From<Result<Verdict, Refusal>> for Numbers {
     ghost from_gives = { λ judgement numbers. numbers ≡ numbers_of (said_judgement judgement) };
 

@@ -1,11 +1,10 @@
 -- What a list of targets amounts to, by how many members the set has that stands for it.
 use mathlib.Core.Path.{◌≡◌, refl, sym, ap, ◌∙◌}
-use mathlib.Core.Logic.{◌↔◌, ◌≢◌}
+use mathlib.Core.Logic.{◌↔◌}
 use mathlib.Core.List.Memᴰ
 use mathlib.Core.List.{List, [], ◌∷◌}
 use Prim.Native.Nat.{ℕ}
 use native.Mathlib.Omega.{arith}
-use lib.ListN.{length, get_or}
 use Rattle.model.specs.Lists.{◌∈◌, Ascending}
 use Rattle.model.specs.Sheet.{members}
 use Rattle.model.specs.Run.{Reached, nothing, just, several, gist}
@@ -28,7 +27,7 @@ one_gist l several (just q) (r, s, n, o, d) (m, f) = absurd (d (f r n ∙ sym (f
 one_gist l several several a b = refl
 
 -- ascending lists with no element, one, and two or more
-abbrev by_members : List ℕ → Reached
+abbrev pub by_members : List ℕ → Reached
 by_members [] = nothing
 by_members (x ∷ []) = just x
 by_members (x ∷ y ∷ l) = several
@@ -46,7 +45,8 @@ same-gist (just q) e (n, f) = ((e q).0 n, λ r o. f r ((e r).1 o))
 same-gist several e (q, r, n, o, d) = (q, r, (e q).0 n, (e r).0 o, d)
 
 module _ {set : ℕ} {l : List ℕ} (s : Stands set l) where
-  gist-members : gist l ≡ by_members (members 64 set)
+  -- a list amounts to what the members of its set do
+  pub gist-members : gist l ≡ by_members (members 64 set)
   gist-members =
       let m = members 64 set in
       let own : Stands set m = members_stand s.fits in
@@ -54,19 +54,3 @@ module _ {set : ℕ} {l : List ℕ} (s : Stands set l) where
       (λ n. has-∈ l (sym (s.same q) ∙ own.same q ∙ ∈-has n), λ n. has-∈ m (sym (own.same q) ∙ s.same q ∙ ∈-has n)) in
       one_gist l (gist l) (by_members m) (gist-is l)
       (same-gist (by_members m) alike (ascending_gist m (members_set 64 set).ascends))
-
-  pub gist_just : length (members 64 set) ≡ 1 → gist l ≡ just (get_or (members 64 set) 0 64)
-  gist_just e = gist-members ∙ go (members 64 set) e
-    where
-      go : (m : List ℕ) → length m ≡ 1 → by_members m ≡ just (get_or m 0 64)
-      go [] e = absurd (omega arith)
-      go (x ∷ []) e = refl
-      go (x ∷ y ∷ m) e = absurd (omega arith)
-
-  pub gist_several : length (members 64 set) ≢ 0 → length (members 64 set) ≢ 1 → gist l ≡ several
-  gist_several d e = gist-members ∙ go (members 64 set) d e
-    where
-      go : (m : List ℕ) → length m ≢ 0 → length m ≢ 1 → by_members m ≡ several
-      go [] d e = absurd (d refl)
-      go (x ∷ []) d e = absurd (e refl)
-      go (x ∷ y ∷ m) d e = refl

@@ -2,4 +2,4 @@ pub mod BitLaws
 pub mod MemberLaws
 pub mod SetLaws
 pub mod GistLaws
-mod SignedLaws
+pub mod SignedLaws

@@ -1,5 +1,6 @@
 -- The members of a set of bits, lowest first: how many, the lowest, and those but the lowest, as the machine finds them.
 use mathlib.Core.Path.{◌≡◌, refl, sym, ap, ap₂, ◌∙◌}
+use mathlib.Core.Logic.{◌≢◌}
 use mathlib.Core.Bool.{Bool, true, false}
 use mathlib.Core.List.{List, [], ◌∷◌, ◌++◌, map, flat_map}
 use Prim.Native.Nat.{ℕ, zero, suc, ◌+◌, ◌-◌, ◌*◌, ◌/◌, ◌%◌, ◌^◌, ◌<◌}
@@ -13,6 +14,7 @@ use Rattle.model.specs.Lists.{only, from}
 use Rattle.model.specs.Sheet.{bit, members}
 use Rattle.model.proofs.ListLaws.{map-append}
 use Rattle.bits.proofs.BitLaws.{bit-first, bit-suc}
+use Rattle.bits.proofs.SetLaws.{stands_none, stands-some, members_stand}
 
 -- ---- one member at a time
 
@@ -63,7 +65,7 @@ members_ones (suc k) n = rw (members-suc k n, members_ones k (n / 2)) (go (n % 2
 pub size_is : (k n : ℕ) → n < 2 ^ k → ones n ≡ length (members k n)
 size_is k n h = ones_up_to k n h ∙ members_ones k n
 
-pub lowest_is : (k n : ℕ) → count_trailing_zeros k n ≡ get_or (members k n) 0 k
+lowest_is : (k n : ℕ) → count_trailing_zeros k n ≡ get_or (members k n) 0 k
 unfolding count_trailing_zeros members flat_map from
 lowest_is zero n = refl
 lowest_is (suc k) n = rw (members-suc k n, lowest_is k (n / 2)) (go (n % 2) (members k (n / 2)))
@@ -86,7 +88,7 @@ members_even k h =
     let even : h * 2 % 2 ≡ 0 = omega arith in
     members-suc k (h * 2) ∙ rw (even, half)
 
-pub without_is : (k n : ℕ) → members k (bit_and n (n - 1)) ≡ drop 1 (members k n)
+without_is : (k n : ℕ) → members k (bit_and n (n - 1)) ≡ drop 1 (members k n)
 unfolding members flat_map from
 without_is zero n = refl
 without_is (suc k) n = rw (members-suc k n) (go (n % 2) refl (without_is k (n / 2)))
@@ -99,3 +101,13 @@ without_is (suc k) n = rw (members-suc k n) (go (n % 2) refl (without_is k (n / 
         under_map [] = refl
         under_map (x ∷ l) = refl
     go (suc d) e rest = ap (members (suc k)) (and_odd n d e) ∙ members_even k (n / 2)
+
+-- a set other than 0 is its lowest member and the set without it
+pub members_first : (n : ℕ) → n < 2 ^ 64 → n ≢ 0
+    → members 64 n ≡ count_trailing_zeros 64 n ∷ members 64 (bit_and n (n - 1))
+members_first n h d =
+    let (x, xs, e) = stands-some (members_stand h) d in
+    rw (lowest_is 64 n, without_is 64 n, e) refl
+
+pub members_none : {n : ℕ} → n ≡ 0 → members 64 n ≡ []
+members_none {n} e = let h : n < 2 ^ 64 = omega arith in stands_none (members_stand h) e

@@ -1,8 +1,8 @@
 // Sets of numbers below 64 as the bits of a u64, arc words, and signed words.
 #![tactic(auto)]
 
-ghost use Rattle.std.specs.Prelude.{◌≡◌, cond, ◌&&◌, ◌||◌, ◌+◌, ◌*◌, eqb, length, get_or, drop};
-ghost use Rattle.model.specs.Sheet.{W, bit, mask, members, arc_of, signed};
+ghost use Rattle.std.specs.Prelude.{◌≡◌, cond, ◌&&◌, ◌||◌, ◌+◌, ◌*◌, eqb, length, None, Some};
+ghost use Rattle.model.specs.Sheet.{W, bit, mask, members, arc_of};
 ghost use Rattle.model.specs.Words.{meets, remainder_of};
 
 // the eight bits of a field of an arc word
@@ -47,18 +47,38 @@ pub fn size(set: u64) -> u32
     set.count_ones()
 }
 
-// The lowest member, or 64 of the empty set.
-pub fn lowest(set: u64) -> u32
-    ensures { result ≡ get_or (members 64 set) 0 64 }
-{
-    set.trailing_zeros()
+// The members of a set that are left, lowest first: they are those of `set`.
+#[derive(Drop)]
+pub struct MembersLeft {
+    pub set: u64,
 }
 
-// The set without its lowest member.
-pub fn without_lowest(set: u64) -> u64
-    ensures { members 64 result ≡ drop 1 (members 64 set) }
+impl Iterator for MembersLeft {
+    ghost use Rattle.std.specs.Iterator.{YieldsFirst, item_count};
+    ghost use Rattle.model.specs.Sheet.{members};
+
+    type Item = u32;
+
+    ghost next_gives = { YieldsFirst (λ m. members 64 m.set) };
+
+    ghost remaining = { item_count (λ m. members 64 m.set) };
+
+    // The lowest member, which goes from the set.
+    fn next(&mut self) -> Option<u32> {
+        let set = self.set;
+        if set == 0 {
+            return None;
+        }
+        self.set = set & (set - 1);
+        Some(set.trailing_zeros())
+    }
+}
+
+// The members of a set, lowest first.
+pub fn members(set: u64) -> MembersLeft
+    ensures { result.set ≡ set }
 {
-    set & set.saturating_sub(1)
+    MembersLeft { set }
 }
 
 // The position that an arc leaves, the state it reads, the position it enters.
@@ -83,19 +103,12 @@ impl From<u32> for Arc {
     }
 }
 
-// The number that a two's complement word stands for.
-pub fn signed(word: u32) -> i32
-    ensures { result ≡ signed word }
-{
-    word.cast_signed()
-}
-
-// What a number leaves on division by m, never negative; 0 where m is 0.
-pub fn remainder(z: i32, m: u32) -> u32
-    ensures { result ≡ cond (eqb m 0) 0 (remainder_of z m) }
+// What a number leaves on division by m, never negative; none where m is 0.
+pub fn remainder(z: i32, m: u32) -> Option<u32>
+    ensures { result ≡ cond (eqb m 0) None (Some (remainder_of z m)) }
 {
     if m == 0 {
-        return 0;
+        return None;
     }
-    i64::from(z).rem_euclid(i64::from(m)) as u32
+    Some(i64::from(z).rem_euclid(i64::from(m)) as u32)
 }

@@ -1,6 +1,7 @@
 -- The table of classes gives each byte value its class.
 use mathlib.Core.Path.{◌≡◌, refl, sym, ap, ◌∙◌}
 use mathlib.Core.Bool.{Bool, true, false, cond, not, and_assoc, ◌&&◌, ◌||◌}
+use mathlib.Core.List.{List, [], ◌∷◌}
 use mathlib.Core.Logic.{◌≢◌}
 use Prim.Native.Nat.{ℕ, ◌<◌}
 use Rattle.std.proofs.Common.{slice_index_or}
@@ -14,6 +15,7 @@ use Rattle.model.specs.Bytes as model
 use Rattle.model.specs.Lists.{every, from}
 use Rattle.std.specs.Prelude.{Option, Some, None}
 use Rattle.std.specs.Option.{option_eq}
+use Rattle.std.specs.List.{list_all}
 use Rattle.model.proofs.Tests.{same, eqb_no, yes_not}
 use Rattle.model.proofs.ListLaws.{every-∈, ∈-numbers}
 use Rattle.chars.specs.Classes.{meaning, number, number_seen, name_class, text_class}
@@ -54,6 +56,12 @@ pub class_in_table : (b : ℕ) → b < 256 → meaning (slice_index_or CLASSES b
 unfolding every from class_of class_number
 class_in_table b h = number_same _ _ (eqb-true _ _
     (every-∈ (λ b. eqb (class_number (meaning (slice_index_or CLASSES b White))) (class_number (class_of b))) refl b (∈-numbers 256 h)))
+
+-- a test of every element, as the library has it
+pub every_all : {A : Type 0} (f : A → Bool) (l : List A) → every f l ≡ list_all f l
+unfolding every
+every_all f [] = refl
+every_all f (x ∷ l) = rw (every_all f l)
 
 -- ---- tests of classes
 

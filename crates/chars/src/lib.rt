@@ -23,11 +23,13 @@ pub enum Class {
     Forbidden,
 }
 
-// The class of a byte, by the table.
-pub fn class_of(byte: u8) -> Class
-    ensures { meaning result ≡ class_of byte }
-{
-    CLASSES[byte as usize]
+impl From<u8> for Class {
+    ghost from_gives = { λ byte class. meaning class ≡ class_of byte };
+
+    // The class of a byte, by the table.
+    fn from(byte: u8) -> Class {
+        CLASSES[byte as usize]
+    }
 }
 
 impl Class {
@@ -64,12 +66,11 @@ pub fn is_digit(byte: u8) -> bool
 pub fn kind_of(text: &[u8]) -> TextKind
     ensures { text_kind result ≡ kind_of_text text.now }
 {
-    for byte in text {
-        if !is_digit(*byte) {
-            return TextKind::Other;
-        }
+    if text.iter().all(|&byte| is_digit(byte)) {
+        TextKind::Integer
+    } else {
+        TextKind::Other
     }
-    TextKind::Integer
 }
 
 // Whether a text may hold the byte: white, or from ! to ~ but none of & < >.

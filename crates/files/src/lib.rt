@@ -25,7 +25,7 @@ pub fn front<R: Files>(rt: &R, path: &[u8], buffer: &mut [u8]) -> usize
 fn read_full<F: Read>(file: &mut F, buffer: &mut [u8]) -> usize
     ensures { IsPrefixLen result buffer.new }
 {
-    // the library's `read_exact` gives no count where the input ends first
+    // kept: the library's `read_exact` gives no count where the input ends first
     let mut done = 0;
     while done < buffer.len() {
         match file.read(&mut buffer[done..]) {

@@ -58,6 +58,7 @@ pub const MOST_ARCS: u32 = 1024;
 
 // ---- count parts: the kinds of steps
 
+// kept: a sheet's words have these numbers, and each reader matches on the word; an enum's conversion would tell each of them once more
 pub const AT_MOST: u32 = 1;
 
 pub const REMAINDER: u32 = 2;

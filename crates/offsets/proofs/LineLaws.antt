@@ -8,7 +8,7 @@ use native.Mathlib.Numerals.{add-one}
 use native.Mathlib.Omega.{arith}
 use lib.Dec.{eqb}
 use lib.ListN.{length, get_or, take, drop, length-drop}
-use lib.Seq.{drop-cons, drop-drop, length-take-le, get_or-drop}
+use lib.Seq.{take_all, drop-cons, drop-drop, length-take-le, get_or-drop}
 use Rattle.model.specs.Names.{lines, prepend}
 use Rattle.offsets.specs.Lines.{line, start_of}
 use Rattle.offsets.proofs.Parts.{part_length}
@@ -48,13 +48,21 @@ pub record Cut (list : List ℕ) (at end : ℕ) : Type 0 where
   pub within : end ≤ length list
   pub cut : lines (drop at list) ≡ take (end - at) (drop at list) ∷ lines (drop end list)
 
-pub line_cut : (list : List ℕ) (at end : ℕ) → at < length list → end ≡ at + length (line (drop at list) 0) → Cut list at end
+line_cut : (list : List ℕ) (at end : ℕ) → at < length list → end ≡ at + length (line (drop at list) 0) → Cut list at end
 line_cut list at end h e =
     let (n, p, q, f) = lines_cons (drop at list) (rw length-drop (omega arith)) in
-    let m : length (line (drop at list) 0) ≡ n = ap (λ (ls : List (List ℕ)). length (get_or ls 0 [])) f ∙ length-take-le n (drop at list) q in
+    let m : length (line (drop at list) 0) ≡ n =
+    ap (λ (ls : List (List ℕ)). length (get_or ls 0 [])) f ∙ length-take-le n (drop at list) q in
     let k : n ≡ end - at = omega arith in
     let j : at + (end - at) ≡ end = omega arith in
     record { after = omega arith; within = omega (arith, length-drop at list); cut = f ∙ rw (k, drop-drop, j) }
+
+-- by the length of the first line of what is left of the list
+pub rest_cut : (list : List ℕ) (at : ℕ) {n : ℕ} → at < length list → n ≡ length (line (take (length list - at) (drop at list)) 0)
+    → Cut list at (at + n)
+rest_cut list at h e =
+    let all = take_all (length list - at) (drop at list) (omega (arith, length-drop at list)) in
+    line_cut list at _ h (rw all at (ap (λ (m : ℕ). at + m) e))
 
 -- ---- where lines begin
 

@@ -1,9 +1,9 @@
 -- Scans of bytes: what the definitions say of a list from an offset on.
-use mathlib.Core.Path.{◌≡◌, refl, ap}
+use mathlib.Core.Path.{◌≡◌, refl, ap, ◌∙◌}
 use mathlib.Core.Logic.{◌≢◌}
 use mathlib.Core.Bool.{Bool, true, false, ◌&&◌}
 use mathlib.Core.List.{List, [], ◌∷◌}
-use Prim.Native.Nat.{ℕ, suc, ◌+◌, ◌≤◌, ◌<◌}
+use Prim.Native.Nat.{ℕ, zero, suc, ◌+◌, ◌≤◌, ◌<◌}
 use native.Mathlib.Numerals.{add-one}
 use native.Mathlib.Omega.{arith}
 use lib.Dec.{eqb}
@@ -25,21 +25,29 @@ unfolding prepend
 prepend-first b [] = refl
 prepend-first b (l ∷ ls) = refl
 
-module _ (s : List ℕ) (i : ℕ) where
-  pub line_fed : i < length s → get_or s i 0 ≡ 10 → length (line (drop i s) 0) ≡ 1
-  unfolding lines
-  line_fed h e = rw (here s i h, eq-eqb _ _ e)
+fed : (b : ℕ) (s : List ℕ) → b ≡ 10 → length (line (b ∷ s) 0) ≡ 1
+unfolding lines
+fed b s e = rw (eq-eqb _ _ e)
 
-  pub line-goes-on : i < length s → get_or s i 0 ≢ 10 → length (line (drop i s) 0) ≡ suc (length (line (drop (i + 1) s) 0))
-  unfolding lines
-  line-goes-on h e = rw (here s i h, ne_eqb _ _ e) (ap length (prepend-first (get_or s i 0) (lines (drop (i + 1) s))))
+goes_on : (b : ℕ) (s : List ℕ) → b ≢ 10 → length (line (b ∷ s) 0) ≡ suc (length (line s 0))
+unfolding lines
+goes_on b s e = rw (ne_eqb _ _ e) (ap length (prepend-first b (lines s)))
 
-  pub lines_end : length s ≤ i → lines (drop i s) ≡ []
-  unfolding lines
-  lines_end h = rw (drop_of_length-le s h)
+-- it ends with the first line feed, or with the list
+pub line_fed : (s : List ℕ) (i : ℕ) → i < length s → get_or s i 0 ≡ 10 → ((k : ℕ) → k < i → get_or s k 0 ≢ 10) → length (line s 0) ≡ i + 1
+line_fed [] i h e others = absurd (omega arith)
+line_fed (b ∷ s) zero h e others = fed b s e
+line_fed (b ∷ s) (suc i) h e others =
+    omega (arith, goes_on b s (others 0 (omega arith)), line_fed s i (omega arith) e (λ k l. others (suc k) (omega arith)))
 
-  pub line_none : length s ≤ i → length (line (drop i s) 0) ≡ 0
-  line_none h = rw (lines_end h)
+pub line_unfed : (s : List ℕ) → ((k : ℕ) → k < length s → get_or s k 0 ≢ 10) → length (line s 0) ≡ length s
+unfolding lines
+line_unfed [] others = refl
+line_unfed (b ∷ s) others = goes_on b s (others 0 (omega arith)) ∙ ap suc (line_unfed s (λ k l. others (suc k) (omega arith)))
+
+pub lines_end : (s : List ℕ) (i : ℕ) → length s ≤ i → lines (drop i s) ≡ []
+unfolding lines
+lines_end s i h = rw (drop_of_length-le s h)
 
 -- ---- two lists of bytes
 

@@ -1,14 +1,16 @@
 -- Laws of writing: one run of words after another, what a loop that writes keeps, and the front of the buffer at last.
 use mathlib.Core.Path.{◌≡◌, refl, sym, ap, ap₂, ◌∙◌}
 use mathlib.Core.Logic.{by_cases}
-use mathlib.Core.List.{List, [], ◌∷◌, ◌++◌, flat_map}
-use Prim.Native.Nat.{ℕ, suc, ◌+◌, ◌-◌, ◌≤◌, ◌<◌, min}
+use mathlib.Core.List.{List, [], ◌∷◌, ◌++◌, flat_map, append_assoc}
+use Prim.Native.Nat.{ℕ, zero, suc, ◌+◌, ◌-◌, ◌≤◌, ◌<◌, min}
 use native.Mathlib.Decide.{dec_le}
-use native.Mathlib.Nat.{zero-add, sub-zero}
+use native.Mathlib.Nat.{add-zero, zero-add, sub-zero}
 use native.Mathlib.Numerals.{add-one}
 use native.Mathlib.Omega.{arith}
-use lib.ListN.{length, get_or, drop, set, length-set, drop_of_length-le}
-use lib.Seq.{sets, sets-eq, drop-cons}
+use lib.ListN.{length, get_or, take, drop, set, replicate, length-set, length-drop, drop_of_length-le}
+use lib.Seq.{sets, sets-eq, set_out, drop-cons, length-take-le}
+use borrow.Rule.Slice.PartMut.{put_mid}
+use Rattle.std.proofs.lemmas.List.{drop-drop, length-replicate, take-replicate}
 use borrow.Author.Tests as tests
 use Rattle.model.specs.Lists.{from, numbers, row, grid}
 use Rattle.page.specs.Page.{Leaf, leaf, add, adds, repeated, Writes, Fills}
@@ -109,6 +111,64 @@ module _ (f : ℕ → ℕ → ℕ) where
   pub grid_none : {as' : List ℕ} (bs : List ℕ) → as' ≡ [] → grid f as' bs ≡ []
   unfolding grid flat_map
   grid_none bs e = rw e
+
+-- ---- a part of the buffer at once: those of the words that it has room for
+
+-- n words are counted, and the first k of them have room
+adds-room : (ws l : List ℕ) (i : ℕ) {n k : ℕ} → n ≡ min (length ws) (16385 - i) → k ≡ min n (length l - i)
+    → adds (leaf l i) ws ≡ leaf (sets l i (take k ws)) (i + n)
+unfolding adds add
+adds-room [] l i {n} {k} en ek =
+    let zn : n ≡ 0 = omega arith in
+    let zk : k ≡ 0 = omega arith in
+    rw (zn, zk, add-zero) refl
+adds-room (w ∷ ws) l i {n} {k} en ek =
+    by_cases (dec_le i 16384)
+    (λ h.
+    let next : suc i + (n - 1) ≡ i + n = omega arith in
+    rw (tests.le-leb i 16384 h, add-one i) (by_cases (dec_le (length l) i)
+    (λ full.
+    let none : k ≡ 0 = omega arith in
+    rw (none, set_out l i w full) (adds-room ws l (suc i) {n = n - 1} {k = 0} (omega arith) (omega arith) ∙ ap (leaf l) next))
+    (λ some.
+    let more : k ≡ suc (k - 1) = omega arith in
+    let room : k - 1 ≡ min (n - 1) (length (set l i w) - suc i) = omega (arith, length-set l i w) in
+    rw more (adds-room ws (set l i w) (suc i) {n = n - 1} {k = k - 1} (omega arith) room
+    ∙ ap (leaf (sets (set l i w) (suc i) (take (k - 1) ws))) next))))
+    (λ past.
+    let none : k ≡ 0 = omega arith in
+    rw (tests.lt-leb i 16384 (omega arith), none) (adds-room ws l i {n = n} {k = 0} (omega arith) (omega arith)))
+
+-- the words that come to index `end`, where the buffer has room up to `top`
+module _ (l ws : List ℕ) (i : ℕ) {end top : ℕ} (ends : end ≡ i + min (length ws) (16385 - i)) (tops : top ≡ min end (length l)) where
+  all-put : leaf (sets l i (take (top - i) ws)) end ≡ adds (leaf l i) ws
+  all-put = rw ends (sym (adds-room ws l i refl (omega arith)))
+
+  pub put_within : {ys : List ℕ} → i < top → ys ≡ take (top - i) ws → leaf (put_mid i (top - i) l ys) end ≡ adds (leaf l i) ws
+  put_within h e =
+      let long : length (take (top - i) ws) ≡ top - i = length-take-le (top - i) ws (omega arith) in
+      rw (e, drop-drop (top - i) i l) (rw (sets-eq (take (top - i) ws) l i (omega arith), long, append_assoc) at all-put)
+
+  pub put_nowhere : top ≤ i → leaf l end ≡ adds (leaf l i) ws
+  put_nowhere h = let none : top - i ≡ 0 = omega arith in rw none at all-put
+
+-- a word n times over, as `fill` says it
+repeated-one : (n w : ℕ) → repeated n (w ∷ []) ≡ replicate n w
+unfolding repeated
+repeated-one zero w = refl
+repeated-one (suc n) w = ap (λ (ws : List ℕ). w ∷ ws) (repeated-one n w)
+
+pub fill_within : (l : List ℕ) (n w i : ℕ) {end top : ℕ} → end ≡ i + min n (16385 - i) → top ≡ min end (length l) → {ys : List ℕ} → i < top
+    → ys ≡ replicate (length (take (top - i) (drop i l))) w
+    → leaf (put_mid i (top - i) l ys) end ≡ adds (leaf l i) (repeated n (w ∷ []))
+fill_within l n w i {top = top} ends tops h e =
+    let room : length (take (top - i) (drop i l)) ≡ top - i = length-take-le (top - i) (drop i l) (omega (arith, length-drop i l)) in
+    rw repeated-one
+    (put_within l (replicate n w) i (rw length-replicate ends) tops h (e ∙ rw (room, take-replicate (top - i) n w (omega arith)) refl))
+
+pub fill_nowhere : (l : List ℕ) (n w i : ℕ) {end top : ℕ} → end ≡ i + min n (16385 - i) → top ≡ min end (length l) → top ≤ i
+    → leaf l end ≡ adds (leaf l i) (repeated n (w ∷ []))
+fill_nowhere l n w i ends tops h = rw repeated-one (put_nowhere l (replicate n w) i (rw length-replicate ends) tops h)
 
 -- ---- from the start of a buffer: the number of words, and the front of the buffer
 

@@ -1,20 +1,13 @@
 // Words put into a buffer one after another, or counted. Every function is total.
 #![tactic(auto)]
 
-ghost use Rattle.std.specs.Prelude.{◌≡◌, [], ◌∷◌, ◌/◌, ◌%◌};
+ghost use Rattle.std.specs.Prelude.{◌≡◌, [], ◌∷◌, ◌+◌, ◌-◌, ◌/◌, ◌%◌, min};
 ghost use Rattle.model.specs.Sheet.{W};
 
 use layout::MOST_WORDS;
 
 // 2 to the power 32
 const WORD: u64 = 1 << 32;
-
-// The two halves of a set as words: the low 32 bits and the high.
-fn halves(set: u64) -> [u32; 2]
-    ensures { result ≡ set % W ∷ set / W ∷ [] }
-{
-    [(set % WORD) as u32, (set / WORD) as u32]
-}
 
 // A buffer that words are put into one after another, and the index of the next.
 #[derive(Drop)]
@@ -42,8 +35,16 @@ impl<'a> Page<'a> {
         self.at
     }
 
+    // Where the next `n` words end, as far as they are counted: past the most words of a sheet the index stays.
+    fn end(&self, n: usize) -> usize
+        ensures { result ≡ self.now.at + min n (16385 - self.now.at) }
+    {
+        self.at + n.min((MOST_WORDS + 1).saturating_sub(self.at))
+    }
+
     // Writes a word where the buffer has the next index. Past the most words of a sheet nothing is written and the index stays, so
     // that every writer also counts its words, on a buffer without room.
+    // kept: a store by index asks for room; this one counts where there is none, and stops behind the most words of a sheet
     pub fn put(&mut self, word: u32)
         ensures { Writes self.old (word ∷ []) self.new }
     {
@@ -57,12 +58,28 @@ impl<'a> Page<'a> {
     }
 
     // Writes words one after another.
+    // kept: `copy_from_slice` asks for as many words as there is room; this writes those that the buffer has room for, and counts all
     pub fn copy(&mut self, words: &[u32])
         ensures { Writes self.old words.now self.new }
     {
-        for w in words {
-            self.put(*w);
+        let end = self.end(words.len());
+        let top = end.min(self.out.len());
+        if self.at < top {
+            self.out[self.at..top].copy_from_slice(&words[..top - self.at]);
         }
+        self.at = end;
+    }
+
+    // Writes a word `n` times.
+    fn repeat(&mut self, n: u32, word: u32)
+        ensures { Writes self.old (repeated n (word ∷ [])) self.new }
+    {
+        let end = self.end(n as usize);
+        let top = end.min(self.out.len());
+        if self.at < top {
+            self.out[self.at..top].fill(word);
+        }
+        self.at = end;
     }
 
     // Writes words, each `n` times in a row.
@@ -70,7 +87,7 @@ impl<'a> Page<'a> {
         ensures { Writes self.old (repeated_each n words.now) self.new }
     {
         for w in words {
-            self.repeat_all(&[*w], n);
+            self.repeat(n, *w);
         }
     }
 
@@ -87,6 +104,9 @@ impl<'a> Page<'a> {
     pub fn put_set(&mut self, set: u64)
         ensures { Writes self.old (set % W ∷ set / W ∷ []) self.new }
     {
-        self.copy(&halves(set));
+        let low = (set % WORD) as u32;
+        let high = (set / WORD) as u32;
+        self.put(low);
+        self.put(high);
     }
 }

@@ -15,6 +15,7 @@ unfoldable pub step_length : List ℕ → ℕ → ℕ
 step_length s a =
     cond (leb (get_or s a 0) 2) (1 + sum_length (get_or s (a + 1) 0) (get_or s (a + 2) 0) + get_or s a 0) (cond (eqb (get_or s a 0) 3) 2 3)
 
--- By its map and its second word: a text's kind, of which there are two; 2 more than a tag's number, of which there are at most 64; 0 for content.
+-- By its map and its second word: a text's kind, of which there are two; 2 more than a tag's number, of which there are at most 64;
+-- 0 for content.
 unfoldable pub key_by : (map second : ℕ) → ℕ
 key_by map second = cond (eqb map 33) (min second 2) (cond (eqb map 38) (2 + min second 64) 0)

@@ -19,7 +19,11 @@ pub const TEXT_KINDS: u32 = 2;
 // the sixteen bits of a word of an index that tell where a rule begins
 const LOWER: u32 = 0xFFFF;
 
+// ---- words found by their index. What is public is total, so a word past the end is read as 0. A sheet that passed its check has all
+// the words that are read of it.
+
 // The word at index i, 0 past the end.
+// kept: total; of a sheet that passed no word is missing, so that with an Option each reader would have an arm that is never taken
 pub fn at(words: &[u32], i: usize) -> u32
     ensures { result ≡ get_or words.now i 0 }
 {
@@ -27,6 +31,7 @@ pub fn at(words: &[u32], i: usize) -> u32
 }
 
 // The word k after index a, 0 past the end.
+// kept: total, as `at`; a slice from the index on would have to be cut for each word, with an answer where it begins past the end
 pub fn field(words: &[u32], a: usize, k: usize) -> u32
     ensures { result ≡ get_or words.now (a + k) 0 }
 {
@@ -34,6 +39,7 @@ pub fn field(words: &[u32], a: usize, k: usize) -> u32
 }
 
 // The set whose low and high words are at a and after it.
+// kept: total, as `at`, and its words are found by the same index
 pub fn set_at(words: &[u32], a: usize) -> u64
     ensures { result ≡ get_or words.now a 0 + get_or words.now (a + 1) 0 * W }
 {
@@ -41,6 +47,7 @@ pub fn set_at(words: &[u32], a: usize) -> u64
 }
 
 // The length of the order part at a: number of positions, two words of accepting positions, number of arcs, the arcs.
+// kept: total, as `at`; how far the part goes is what is asked, so there is no slice of it yet
 #[tactic(auto, unfolding(crate::specs::Lengths::order_length))]
 pub fn order_length(words: &[u32], a: usize) -> usize
     ensures { result ≡ order_length words.now a }
@@ -49,6 +56,7 @@ pub fn order_length(words: &[u32], a: usize) -> usize
 }
 
 // The length of the sum at a: two words of marks, and a coefficient for each mark.
+// kept: total, as `at`, and the part's end is asked, as by `order_length`
 #[tactic(auto, unfolding(crate::specs::Lengths::sum_length))]
 pub fn sum_length(words: &[u32], a: usize) -> usize
     ensures { result ≡ sum_length (get_or words.now a 0) (get_or words.now (a + 1) 0) }
@@ -57,11 +65,13 @@ pub fn sum_length(words: &[u32], a: usize) -> usize
 }
 
 // The length of the step at a, by its kind: a sum and as many words more as the number of its kind, or one or two step numbers.
+// kept: total, as `at`, and the part's end is asked, as by `order_length`
 #[tactic(auto, unfolding(crate::specs::Lengths::step_length, crate::specs::Lengths::sum_length))]
 pub fn step_length(words: &[u32], a: usize) -> usize
     ensures { result ≡ step_length words.now a }
 {
     let kind = at(words, a);
+    // kept: a length for each kind by document 01's numbers, of which one is added; no step is run
     match kind {
         ..=REMAINDER => {
             let marks = bits::of_words(field(words, a, 1), field(words, a, 2));
@@ -92,6 +102,7 @@ pub fn key_of(map: u32, second: u32) -> usize
     ensures key { result ≡ key_by map second }
     ensures few { result < 67 }
 {
+    // kept: a key for each map by document 01's numbers; no step is run
     match map {
         TEXT_RULE => second.min(TEXT_KINDS) as usize,
         TAG_RULE => (TEXT_KINDS + second.min(MOST_TAGS)) as usize,

@@ -42,6 +42,7 @@ pub fn pair_set(m: u32, n: u32, s: u64, t: u64) -> u64
     }
     let row = below(t, n);
     let mut set = 0;
+    // kept: tried; with `bits::members(below(s, m))` the proof of the invariant Rows, by the number i, didn't close
     for i in 0..m {
         if bits::has(s, i) {
             set += row << (i * n);

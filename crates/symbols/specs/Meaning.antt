@@ -1,4 +1,4 @@
--- The answers of `symbol_of`, in the model's terms.
+-- What `Symbol::from` a word gives, in the model's terms.
 use Rattle.model.specs.Tree.{of_tag, of_text, of_nothing}
 use Rattle.model.specs.Tree as model
 use Rattle.model.specs.Bytes.{text_kind}

@@ -1,6 +1,6 @@
 -- The table of a name list: where each of its lines begins, and its tags in chains, by buckets of their names.
-use Rattle.std.specs.Prelude.{◌≡◌, Bool, cond, ◌||◌, List, [], ℕ, zero, suc, ◌+◌, ◌-◌, ◌*◌, ◌%◌, ◌≤◌, ◌<◌, eqb, leb, ltb, length, get_or, set, take, drop, replicate}
-use Rattle.std.specs.Prelude.{Option, Some, None}
+use Rattle.std.specs.Prelude.{◌≡◌, Bool, cond, ◌||◌, ℕ, zero, suc, ◌+◌, ◌-◌, ◌*◌, ◌%◌, ◌≤◌, ◌<◌, eqb, leb, ltb, Option, Some, None}
+use Rattle.std.specs.Prelude.{List, [], length, get_or, set, take, drop, replicate}
 use Rattle.model.specs.Bytes.{same_bytes}
 use Rattle.model.specs.Names.{bare, name_of}
 use Rattle.std.proofs.lemmas.List.Edits.{sets}

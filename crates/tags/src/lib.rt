@@ -27,7 +27,7 @@ pub fn bucket(name: &[u8]) -> usize
 
 // Where each line of a list begins, and where the last of them ends; the first tag of each chain; and the tag after each tag in its
 // chain.
-// kept: 0 is no tag, since an Option in each place would double the memory of both arrays, and a chain's 0 is below all of its tags
+// kept: 0 ends a chain and is below each tag, so that by the one test tag <= next each walk ends; an Option would be unwrapped first
 #[derive(Drop)]
 pub struct Table {
     pub starts: [usize; MOST_NAMES + 1],
@@ -81,7 +81,7 @@ impl Table {
             return None;
         }
         let mut tag = first;
-        // kept: each step reads the next tag from the table and may stop, so that a chain of iterators would need a state of its own
+        // kept: the one walk along a chain of tags; an iterator of its own would take three times these lines, and serve this loop alone
         while tag != 0 {
             if offsets::same_bytes(self.name_of(list, tag), name) {
                 return Some(tag);
@@ -95,7 +95,8 @@ impl Table {
         None
     }
 
-    // Puts a tag before the first of a chain; nothing where there is no such tag, or no such chain.
+    // Puts a tag before the first of a chain; nothing where the tag is over 64, or there is no such chain. Tag 0, which is no tag,
+    // leaves the chain empty.
     pub fn link(&mut self, chain: usize, tag: usize)
         ensures { self.new ≡ linked self.old chain tag }
     {

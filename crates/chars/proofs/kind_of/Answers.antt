@@ -1,18 +1,23 @@
--- `chars::kind_of` meets its contract: a byte that is no digit decides.
-use mathlib.Core.Path.{sym, ◌∙◌}
+-- `chars::kind_of` meets its contract: all bytes are digits, or one is none.
+use mathlib.Core.Path.{sym}
+use borrow.Author.Rules.{rules}
+use borrow.Author.Tests.{tests}
+use Rattle.std.proofs.lemmas.Iterator.{YieldsList-from_slice}
+use Rattle.std.proofs.lemmas.Iterator.Search.{all_from_yields_List}
 use Rattle.model.specs.Bytes.{digit_byte, kind_of_text}
-use Rattle.model.proofs.ListLaws.{every_yes, every_no, every-end}
+use Rattle.chars.proofs.ClassLaws.{every_all}
 use Rattle.chars.proofs.kind_of.Goals as goal
 
-pub returns-then-not-is_digit : goal.returns-then-not-is_digit
+pub returns-then-all : goal.returns-then-all
 unfolding kind_of_text
-returns-then-not-is_digit c = rw (c.loop-byte.invariant ∙ every_no digit_byte _ _ c.loop-byte-test.true
-    (sym c.is_digit.ensures ∙ c.if-not-is_digit.true))
+returns-then-all c =
+    let all = all_from_yields_List digit_byte _ _ c.all.result c.all.ensures.ran (YieldsList-from_slice c.args.text.now cc)
+    (λ x b q k. search (rules, tests)) in
+    rw (every_all digit_byte c.args.text.now, sym all, c.if-all.true)
 
-pub loop-byte-preserved : goal.loop-byte-preserved
-loop-byte-preserved c = c.loop-byte.invariant ∙ every_yes digit_byte _ _ c.loop-byte-test.true
-    (sym c.is_digit.ensures ∙ c.if-not-is_digit.false)
-
-pub returns : goal.returns
+pub returns-else-all : goal.returns-else-all
 unfolding kind_of_text
-returns c = rw (c.loop-byte.invariant ∙ every-end digit_byte _ _ c.loop-byte-test.false)
+returns-else-all c =
+    let all = all_from_yields_List digit_byte _ _ c.all.result c.all.ensures.ran (YieldsList-from_slice c.args.text.now cc)
+    (λ x b q k. search (rules, tests)) in
+    rw (every_all digit_byte c.args.text.now, sym all, c.if-all.false)

@@ -3,7 +3,7 @@ use mathlib.Core.Path.{◌≡◌, refl, ◌∙◌}
 use native.Mathlib.Nat.{sub-zero}
 use native.Mathlib.Omega.{arith}
 use borrow.Author.Rules.{rules}
-use Rattle.offsets.proofs.LineLaws.{line_cut, begins-first, begins-some, begins_none, begins-next}
+use Rattle.offsets.proofs.LineLaws.{rest_cut, begins-first, begins-some, begins_none, begins-next}
 use Rattle.offsets.proofs.IndexLaws.{write-next, write-last}
 use Rattle.offsets.proofs.index.Goals as goal
 
@@ -18,10 +18,13 @@ pub returns-then-list-at-clause-starts : goal.returns-then-list-at-clause-starts
 returns-then-list-at-clause-starts c = let top = c.loop-k.invariant in (write-last _ _ _ _ _ _ top.0 top.1 c.put.ensures
     (omega (arith, begins_none _ _ _ top.0 c.if-list-at.true))).1
 
+pub overflow_add-at : goal.overflow_add-at
+overflow_add-at c = omega (arith, (rest_cut _ _ c.if-list-at.false c.line_length-at.ensures).within)
+
 pub loop-k-preserved : goal.loop-k-preserved
 loop-k-preserved c = let top = c.loop-k.invariant in
     let more = c.if-list-at.false in (
-      begins-next _ _ _ top.0 _ (line_cut _ _ _ more c.line_end-at.ensures),
+      begins-next _ _ _ top.0 _ (rest_cut _ _ more c.line_length-at.ensures),
       write-next _ _ _ _ _ _ top.0 top.1 c.put.ensures
           (omega (arith, begins-some _ _ _ top.0 more)),
       search rules,

@@ -1,11 +1,13 @@
 -- `repeat_each` meets its contract.
-use Rattle.model.proofs.PartLaws.{each_next, each_none}
+use mathlib.Core.List.{flat_map}
+use Rattle.model.proofs.PartLaws.{each_none}
 use Rattle.page.proofs.PageLaws.{more, done, rest_next, rest_none}
 use borrow.Author.Rules.{rules}
 use Rattle.page.proofs.Page.repeat_each.Goals as goal
 
 pub loop-w-preserved : goal.loop-w-preserved
-loop-w-preserved c = more c.loop-w.invariant (each_next _ (rest_next _ _ c.loop-w-test.true)) c.repeat_all.ensures
+unfolding flat_map
+loop-w-preserved c = search (more, rest_next, rules)
 
 pub returns : goal.returns
 returns c = search (done, each_none, rest_none, rules)

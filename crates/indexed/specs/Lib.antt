@@ -1,0 +1,3 @@
+pub mod Spots
+pub mod Rules
+pub mod Walks
