@@ -41,7 +41,7 @@ abbrev pub Gives : (b d : List ℕ) → Said → List ℕ → Type 0
 Gives b d x y = (x ≡ from_file_said b d) × (y ≡ from_file_sheet b d)
 
 -- the whole words stand at the front of a buffer
-module _ (b room : List ℕ) {room' : List ℕ} {n : ℕ} (en : n ≡ min 16384 (length b / 4))
+module _ (b room : List ℕ) {room' : List ℕ} {n : ℕ} (en : n ≡ min (length b / 4) 16384)
     (er : room' ≡ take n (file_words b) ++ drop n room) where
   pub front : take n room' ≡ take n (file_words b)
   front = ap (take n) er ∙ take_at (take n (file_words b)) (drop n room) n (whole_length b en)
@@ -50,7 +50,7 @@ module _ (b room : List ℕ) {room' : List ℕ} {n : ℕ} (en : n ≡ min 16384 
   front_length = sym (ap length front ∙ whole_length b en)
 
 -- r is the check's answer on them
-module _ (b d room : List ℕ) {room' : List ℕ} {n : ℕ} {r : Answer} (en : n ≡ min 16384 (length b / 4))
+module _ (b d room : List ℕ) {room' : List ℕ} {n : ℕ} {r : Answer} (en : n ≡ min (length b / 4) 16384)
     (er : room' ≡ take n (file_words b) ++ drop n room) (ec : said r ≡ sheet_said (take n room')) where
   pub answers_refusal : {x : Refusal} → r ≡ Err x → Gives b d (said_refusal x) d
   unfolding from_file_said from_file_sheet from_file ◌>>=◌ answer_of buffer_after

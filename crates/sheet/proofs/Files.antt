@@ -30,7 +30,7 @@ rest (a ∷ b ∷ c ∷ d ∷ r) =
 
 -- ---- the check of a file's whole words, at most 16,384 of them
 
-module _ (b : List ℕ) {n : ℕ} (en : n ≡ min 16384 (length b / 4)) where
+module _ (b : List ℕ) {n : ℕ} (en : n ≡ min (length b / 4) 16384) where
   abbrev whole : List ℕ
   whole = take n (file_words b)
 

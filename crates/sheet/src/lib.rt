@@ -39,9 +39,8 @@ pub fn from_file(bytes: &[u8], sheet: &mut [u32]) -> Result<usize, Refusal>
     ensures answer { said result ≡ from_file_said bytes.now sheet.old }
     ensures buffer { sheet.new ≡ from_file_sheet bytes.now sheet.old }
 {
-    let n = (bytes.len() / WORD_BYTES).min(MOST_WORDS);
     let mut words = [0u32; MOST_WORDS];
-    put_words(bytes, &mut words, n);
+    let n = put_words(bytes, &mut words);
     check(&words[..n])?;
     // Bytes after a whole sheet: 1 to 3 over, a word after the last rule, or one beyond the most words.
     if n * WORD_BYTES != bytes.len() {
@@ -50,6 +49,5 @@ pub fn from_file(bytes: &[u8], sheet: &mut [u32]) -> Result<usize, Refusal>
     if sheet.len() < n {
         return Err(Refusal::ShortBuffer(n));
     }
-    put_words(bytes, sheet, n);
-    Ok(n)
+    Ok(put_words(bytes, sheet))
 }

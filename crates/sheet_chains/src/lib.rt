@@ -13,6 +13,7 @@ use layout::{ENTRIES, KEYS, RULES};
 const UPPER: u32 = 65536;
 
 // Puts rule j, which begins at word `begin`, before the first rule with its key.
+// kept: no `From` an Entry makes its word, since it can't ask that a place fits sixteen bits, as `EntryFits` does
 fn put_entry(sheet: &[u32], begin: usize, j: usize, index: &mut [u32])
     requires { EntryFits index.old j begin }
     ensures { index.new ≡ with_entry sheet.now index.old j begin }
@@ -32,6 +33,7 @@ pub fn chain(sheet: &[u32], places: &[usize], index: &mut [u32])
     let n = sheet[RULES];
     index[..KEYS].fill(n);
     index[ENTRIES + n as usize] = sheet.len() as u32;
+    // kept: tried; with `places[..n].iter().enumerate().rev()` the proof of the invariant Chaining, by the number j, didn't close
     for j in (0..n as usize).rev() {
         put_entry(sheet, places[j], j, index);
     }

@@ -7,15 +7,15 @@ use lib.ListN.{length, get_or}
 use lib.Seq.{take_all}
 use Rattle.std.specs.Prelude.{Result, Err}
 use Rattle.sheet_walk.specs.declared.Bad.{Bad}
-use Rattle.model.specs.Lists.{numbers}
-use Rattle.model.specs.Sheet.{got, bad, Reader, then, word, between, set_below, all, rule, sheet, ended, sheet_of}
+use Rattle.model.specs.Sheet.{got, bad, Reader, word, between, set_below, sheet, ended, sheet_of}
 use Rattle.model.specs.Spans.{WordsAt}
 use Rattle.model.specs.Index.{sheet_in, rules_in, Passes}
 use Rattle.model.proofs.Spans.{Reads, between-reads, span_word}
 use Rattle.model.proofs.SetWords.{set_reads}
 use Rattle.model.proofs.PassedLaws.{in_range, few_words, edition_word, states-word, final-there, tags-word, rules-word}
-use Rattle.sheet_walk.specs.Walks.{after}
-use Rattle.sheet_walk.proofs.WalkLaws.{left_bad, last}
+use Rattle.sheet_walk.specs.declared.Walk.{Walk}
+use Rattle.sheet_walk.specs.Walks.{GoesPast}
+use Rattle.sheet_walk.proofs.WalkLaws.{refused}
 use Rattle.sheet_rules.specs.Places.{Begins, Places}
 
 -- a part that is there is read, to its end
@@ -33,10 +33,6 @@ on_word ok {a} {b} i e l h m f =
 module _ (s : List ℕ) {one p g n sized finals tagged ruled first : ℕ} {final : List ℕ} (e₁ : word (between 1 1) s 0 ≡ got one sized)
     (e₂ : word (between 1 64) s sized ≡ got p finals) (e₃ : set_below p s finals ≡ got final tagged)
     (e₄ : word (between 1 64) s tagged ≡ got g ruled) (e₅ : word (between 0 1024) s ruled ≡ got n first) where
-  pub whole_read : {v : Result ℕ Bad} → v ≡ after (all (λ i. rule p g) (numbers n)) s first → v ≡ after sheet s 0
-  unfolding sheet then
-  whole_read e = rw (e₁, e₂, e₃, e₄, e₅) (last _ _ _ e)
-
   past_edition : Passes s → sized ≡ 1
   past_edition ok = (on_word ok 0 (edition_word ok) (omega arith) (omega arith) (omega arith) e₁).1
 
@@ -67,11 +63,12 @@ module _ (s : List ℕ) {one p g n sized finals tagged ruled first : ℕ} {final
   }
 
 -- words with a bad one don't pass, and there is nothing to note
-pub none_noted : (s : List ℕ) {v : Result ℕ Bad} {b : Bad} {places : List ℕ} → v ≡ after sheet s 0 → v ≡ Err b → Places s places
+pub none_noted : {x y : Walk} {v : Result (Unit {0}) Bad} {b : Bad} {places : List ℕ} → GoesPast sheet x v y → v ≡ Err b → x.at ≡ 0
+    → Places x.words.now places
 unfolding sheet_of ended
-none_noted s {b = b} e eb = record {
+none_noted {x} {b = b} h e start = record {
   noted = λ ok.
-      let stops : sheet s 0 ≡ bad b.0 = left_bad _ (sym e ∙ eb) in
-      let h = rw (take_all 16384 s (omega (arith, few_words ok)), stops) at ok.as_sheet in
+      let stops : sheet x.words.now 0 ≡ bad b.0 = rw start at (refused h e) in
+      let passed = rw (take_all 16384 x.words.now (omega (arith, few_words ok)), stops) at ok.as_sheet in
       absurd cc;
 }

@@ -1,12 +1,12 @@
 // A count part of a sheet: number of steps, the steps.
 #![tactic(auto)]
 
-ghost use Rattle.std.specs.Prelude.{◌≡◌, ◌&&◌};
-ghost use Rattle.model.specs.Sheet.{W, below, small, signed, sum, at_most_step, remainder_step, step, steps};
-ghost use Rattle.sheet_walk.specs.Walks.{after};
+ghost use Rattle.std.specs.Prelude.{◌≡◌, ℕ, ◌&&◌};
+ghost use Rattle.model.specs.Sheet.{W, Step, below, small, signed, sum, at_most_step, remainder_step, two_earlier, step, steps};
+ghost use Rattle.sheet_walk.specs.Walks.{GoesPast};
 
 use layout::{AND, AT_MOST, MOST_STEPS, NOT, OR, REMAINDER};
-use sheet_walk::{Bad, all_good, any_word, below, between, set_below};
+use sheet_walk::{Bad, Walk};
 
 const LARGEST_MODULUS: u32 = 1000;
 
@@ -17,54 +17,64 @@ fn coefficient_good(w: u32) -> bool
     ((1 <= w) & (w <= 0x7FFF)) | (0xFFFF_8000 <= w)
 }
 
-// The index after the marks of states below `p` and a coefficient for each mark.
-fn sum(words: &[u32], at: usize, p: u32) -> Result<usize, Bad>
-    ensures { result ≡ after (sum p) words.now at }
+// Goes past the marks of states below `p` and a coefficient for each mark.
+// kept: `p` is read by the walk itself; a walk that has it would be another type from there on, with the same methods once more
+fn sum(walk: &mut Walk, p: u32) -> Result<(), Bad>
+    ensures { GoesPast (sum p) walk.old result walk.new }
 {
-    let (marks, at) = set_below(words, at, p)?;
-    all_good(words, at, bits::size(marks), coefficient_good)
+    let marks = walk.set_below(p)?;
+    walk.all_good(bits::size(marks), coefficient_good)
 }
 
-// The index after the fields of an at-most step: a sum and a bound.
-fn at_most(words: &[u32], at: usize, p: u32) -> Result<usize, Bad>
-    ensures { result ≡ after (at_most_step p) words.now at }
+// Goes past the fields of an at-most step: a sum and a bound.
+fn at_most(walk: &mut Walk, p: u32) -> Result<(), Bad>
+    ensures { GoesPast (at_most_step p) walk.old result walk.new }
 {
-    let at = sum(words, at, p)?;
-    let (_, next) = any_word(words, at)?;
-    Ok(next)
+    sum(walk, p)?;
+    walk.any_word()?;
+    Ok(())
 }
 
-// The index after the fields of a remainder step: a sum, a modulus and a remainder below it.
-fn remainder(words: &[u32], at: usize, p: u32) -> Result<usize, Bad>
-    ensures { result ≡ after (remainder_step p) words.now at }
+// Goes past the fields of a remainder step: a sum, a modulus and a remainder below it.
+fn remainder(walk: &mut Walk, p: u32) -> Result<(), Bad>
+    ensures { GoesPast (remainder_step p) walk.old result walk.new }
 {
-    let at = sum(words, at, p)?;
-    let (modulus, at) = between(words, at, 1, LARGEST_MODULUS)?;
-    below(words, at, modulus)
+    sum(walk, p)?;
+    let modulus = walk.between(1, LARGEST_MODULUS)?;
+    walk.below(modulus)
 }
 
-// The index after step `i`, by its kind.
-fn step(words: &[u32], at: usize, p: u32, i: u32) -> Result<usize, Bad>
-    ensures { result ≡ after (step p i) words.now at }
+// Goes past the numbers of two steps below `i`.
+fn two_below(walk: &mut Walk, i: u32) -> Result<(), Bad>
+    ensures { (f : ℕ → ℕ → Step) → GoesPast (two_earlier f i) walk.old result walk.new }
 {
-    let (kind, fields) = any_word(words, at)?;
-    match kind {
-        AT_MOST => at_most(words, fields, p),
-        REMAINDER => remainder(words, fields, p),
-        NOT => below(words, fields, i),
-        AND => below(words, below(words, fields, i)?, i),
-        OR => below(words, below(words, fields, i)?, i),
+    walk.below(i)?;
+    walk.below(i)
+}
+
+// Goes past step `i`, by its kind.
+fn step(walk: &mut Walk, p: u32, i: u32) -> Result<(), Bad>
+    ensures { GoesPast (step p i) walk.old result walk.new }
+{
+    let at = walk.at;
+    // kept: document 01's form, a match over step kinds, all other numbers refused
+    match walk.any_word()? {
+        AT_MOST => at_most(walk, p),
+        REMAINDER => remainder(walk, p),
+        NOT => walk.below(i),
+        AND => two_below(walk, i),
+        OR => two_below(walk, i),
         _ => Err(Bad(at)),
     }
 }
 
-// The index after a count part over `p` states.
-pub fn count_part(words: &[u32], at: usize, p: u32) -> Result<usize, Bad>
-    ensures { result ≡ after (steps p) words.now at }
+// Goes past a count part over `p` states.
+pub fn count_part(walk: &mut Walk, p: u32) -> Result<(), Bad>
+    ensures { GoesPast (steps p) walk.old result walk.new }
 {
-    let (n, mut at) = between(words, at, 1, MOST_STEPS)?;
+    let n = walk.between(1, MOST_STEPS)?;
     for i in 0..n {
-        at = step(words, at, p, i)?;
+        step(walk, p, i)?;
     }
-    Ok(at)
+    Ok(())
 }

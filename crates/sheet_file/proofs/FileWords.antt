@@ -7,6 +7,7 @@ use native.Mathlib.Numerals.{add-one}
 use native.Mathlib.Omega.{arith}
 use lib.ListN.{length, get_or, set, take, drop}
 use lib.Seq.{paste-suc}
+use Rattle.std.specs.Simd.{first_chunks}
 use Rattle.model.specs.Sheet.{file_words}
 
 -- bytes over count as a word
@@ -18,22 +19,21 @@ file-length (a ∷ b ∷ []) = refl
 file-length (a ∷ b ∷ c ∷ []) = refl
 file-length (a ∷ b ∷ c ∷ d ∷ r) = let h = file-length r in omega arith
 
--- word i is made of the four bytes from 4 × i on
-pub four_bytes : (b : List ℕ) (i : ℕ) → i * 4 + 4 ≤ length b
-    → get_or b (i * 4) 0 + 2 ^ 8 * get_or b (i * 4 + 1) 0 + 2 ^ 16 * get_or b (i * 4 + 2) 0 + 2 ^ 24 * get_or b (i * 4 + 3) 0
-    ≡ get_or (file_words b) i 0
+-- the word of four bytes
+abbrev pub word_of : List ℕ → ℕ
+word_of b = get_or b 0 0 + get_or b 1 0 * 2 ^ 8 + get_or b 2 0 * 2 ^ 16 + get_or b 3 0 * 2 ^ 24
+
+-- word i is that of chunk i
+pub chunk_word : (k : ℕ) (b : List ℕ) (i : ℕ) → k * 4 ≤ length b → i < k
+    → word_of (get_or (first_chunks 4 k b) i []) ≡ get_or (file_words b) i 0
 unfolding file_words
-four_bytes [] i h = absurd (omega arith)
-four_bytes (a ∷ []) i h = absurd (omega arith)
-four_bytes (a ∷ b ∷ []) i h = absurd (omega arith)
-four_bytes (a ∷ b ∷ c ∷ []) i h = absurd (omega arith)
-four_bytes (a ∷ b ∷ c ∷ d ∷ r) zero h = refl
-four_bytes (a ∷ b ∷ c ∷ d ∷ r) (suc i) h =
-    let e₀ : suc i * 4 ≡ suc (suc (suc (suc (i * 4)))) = omega arith in
-    let e₁ : suc i * 4 + 1 ≡ suc (suc (suc (suc (i * 4 + 1)))) = omega arith in
-    let e₂ : suc i * 4 + 2 ≡ suc (suc (suc (suc (i * 4 + 2)))) = omega arith in
-    let e₃ : suc i * 4 + 3 ≡ suc (suc (suc (suc (i * 4 + 3)))) = omega arith in
-    rw (e₁, e₂, e₃, e₀) (four_bytes r i (omega arith))
+chunk_word zero b i h l = absurd (omega arith)
+chunk_word (suc k) [] i h l = absurd (omega arith)
+chunk_word (suc k) (a ∷ []) i h l = absurd (omega arith)
+chunk_word (suc k) (a ∷ b ∷ []) i h l = absurd (omega arith)
+chunk_word (suc k) (a ∷ b ∷ c ∷ []) i h l = absurd (omega arith)
+chunk_word (suc k) (a ∷ b ∷ c ∷ d ∷ r) zero h l = omega arith
+chunk_word (suc k) (a ∷ b ∷ c ∷ d ∷ r) (suc i) h l = chunk_word k r i (omega arith) (omega arith)
 
 -- one more word at the front of a buffer
 pub front_more : (b d : List ℕ) {words : List ℕ} {i v : ℕ} → words ≡ take i (file_words b) ++ drop i d → i * 4 + 4 ≤ length b → i < length d

@@ -1,24 +1,19 @@
 // The words of a sheet's file: 4 bytes each, lowest first.
 #![tactic(auto)]
 
-ghost use Rattle.std.specs.Prelude.{◌≡◌, ◌++◌, ◌+◌, ◌*◌, ◌≤◌, length, get_or, take, drop};
+ghost use Rattle.std.specs.Prelude.{◌≡◌, ◌++◌, ◌/◌, min, length, take, drop};
 ghost use Rattle.model.specs.Sheet.{file_words};
 
-// Word i of the file.
-fn word_of(bytes: &[u8], i: usize) -> u32
-    requires { i * 4 + 4 ≤ length bytes.now }
-    ensures { result ≡ get_or (file_words bytes.now) i 0 }
+// The file's first words to the front of a buffer, as many as the file has whole and the buffer holds: how many.
+pub fn put_words(bytes: &[u8], words: &mut [u32]) -> usize
+    ensures count { result ≡ min (length bytes.now / 4) (length words.old) }
+    ensures words { words.new ≡ take result (file_words bytes.now) ++ drop result words.old }
 {
-    let at = i * 4;
-    u32::from_le_bytes([bytes[at], bytes[at + 1], bytes[at + 2], bytes[at + 3]])
-}
-
-// The file's first `n` words to the front of a buffer.
-pub fn put_words(bytes: &[u8], words: &mut [u32], n: usize)
-    requires { (n * 4 ≤ length bytes.now) × (n ≤ length words.old) }
-    ensures { words.new ≡ take n (file_words bytes.now) ++ drop n words.old }
-{
+    let (fours, _) = bytes.as_chunks::<4>();
+    let n = fours.len().min(words.len());
+    // kept: tried with `iter_mut().zip(fours)`, and the proof didn't close: in such a loop no invariant can name what the slice holds
     for i in 0..n {
-        words[i] = word_of(bytes, i);
+        words[i] = u32::from_le_bytes(fours[i]);
     }
+    n
 }

@@ -3,11 +3,11 @@
 
 ghost use Rattle.std.specs.Prelude.{◌≡◌};
 ghost use Rattle.model.specs.Sheet.{arc_ok, order};
-ghost use Rattle.sheet_walk.specs.Walks.{after};
+ghost use Rattle.sheet_walk.specs.Walks.{GoesPast};
 
 use bits::Arc;
 use layout::{MOST_ARCS, MOST_POSITIONS};
-use sheet_walk::{Bad, all_good, between, set_below};
+use sheet_walk::{Bad, Walk};
 
 // Whether an arc word leaves and enters positions below `m` and reads a state below `p`, with nothing above bit 23.
 fn arc_good(w: u32, p: u32, m: u32) -> bool
@@ -17,12 +17,13 @@ fn arc_good(w: u32, p: u32, m: u32) -> bool
     (arc.leaves < m) & (arc.reads < p) & (arc.enters < m) & (w >> 24 == 0)
 }
 
-// The index after an order part over `p` states.
-pub fn order_part(words: &[u32], at: usize, p: u32) -> Result<usize, Bad>
-    ensures { result ≡ after (order p) words.now at }
+// Goes past an order part over `p` states.
+// kept: `p` is read by the walk itself; a walk that has it would be another type from there on, with the same methods once more
+pub fn order_part(walk: &mut Walk, p: u32) -> Result<(), Bad>
+    ensures { GoesPast (order p) walk.old result walk.new }
 {
-    let (m, at) = between(words, at, 1, MOST_POSITIONS)?;
-    let (_, at) = set_below(words, at, m)?;
-    let (n, at) = between(words, at, 0, MOST_ARCS)?;
-    all_good(words, at, n, |w| arc_good(w, p, m))
+    let m = walk.between(1, MOST_POSITIONS)?;
+    walk.set_below(m)?;
+    let n = walk.between(0, MOST_ARCS)?;
+    walk.all_good(n, |w| arc_good(w, p, m))
 }

@@ -2,23 +2,23 @@
 use mathlib.Core.Path.{◌≡◌, sym, ap, ◌∙◌}
 use mathlib.Core.Logic.{⊎_elim}
 use mathlib.Core.List.{List, flat_map}
-use Prim.Native.Nat.{ℕ, suc, ◌+◌, ◌-◌, ◌≤◌, ◌<◌}
-use native.Mathlib.Nat.{sub-zero, eq-or-lt_of_le}
+use Prim.Native.Nat.{ℕ, suc, ◌+◌, ◌≤◌, ◌<◌}
+use native.Mathlib.Nat.{eq-or-lt_of_le}
 use native.Mathlib.Numerals.{add-one}
 use native.Mathlib.Omega.{arith}
 use lib.ListN.{length, set, length-set}
 use lib.Seq.{get_or-set_same, get_or-set_other}
 use Rattle.std.specs.Prelude.{Result, Ok, Err}
-use Rattle.model.specs.Lists.{from, numbers}
-use Rattle.model.specs.Sheet.{one, got, all, rule, rule_words, RuleInRange}
+use Rattle.model.specs.Sheet.{one, got, rule, rule_words, RuleInRange}
 use Rattle.model.specs.Index.{begin, nth, sheet_in, rules_in, Passes}
 use Rattle.model.proofs.PartLaws.{part_nth}
 use Rattle.model.proofs.SheetCode.{rule-reads}
 use Rattle.model.proofs.PassedLaws.{in_range, rules-there}
 use Rattle.model.proofs.IndexLaws.{rule-next}
 use Rattle.sheet_walk.specs.declared.Bad.{Bad}
-use Rattle.sheet_walk.specs.Walks.{after}
-use Rattle.sheet_walk.proofs.WalkLaws.{left_bad, left_got, loop_more}
+use Rattle.sheet_walk.specs.declared.Walk.{Walk}
+use Rattle.sheet_walk.specs.Walks.{GoesPast}
+use Rattle.sheet_walk.proofs.WalkLaws.{read_by, refused, taken, Leads, leads_first, leads_more}
 use Rattle.sheet_rules.specs.Places.{BeginsOf, RulesFrom, Begins}
 
 -- one more place, which is that of rule i
@@ -44,35 +44,35 @@ rule-read {s} ok k l =
     (rule-reads p g (in_range ok).few_states).backwards there.ranges there.there
     ∙ ap (got (nth (rules_in s) k)) (there.there.ends ∙ sym (rule-next ok k l))
 
--- before rule i is read, at index `at`
-pub record Noting (p g n : ℕ) (s : List ℕ) (first at : ℕ) (places : List ℕ) (i : ℕ) : Type 0 where
-  pub leads : after (all (λ j. rule p g) (from (n - i) i)) s at ≡ after (all (λ j. rule p g) (numbers n)) s first
-  pub here : RulesFrom p g n s first → at ≡ begin (sheet_in s).states 6 (rules_in s) i
-  pub noted : RulesFrom p g n s first → BeginsOf i s places
+-- a walk from x, at y, before rule i is read
+pub record Noting (p g n : ℕ) (x y : Walk) (places : List ℕ) (i : ℕ) : Type 0 where
+  pub leads : Leads (λ j. rule p g) n i x y
+  pub here : RulesFrom p g n x.words.now x.at → y.at ≡ begin (sheet_in x.words.now).states 6 (rules_in x.words.now) i
+  pub noted : RulesFrom p g n x.words.now x.at → BeginsOf i x.words.now places
 
-pub noting_none : {p g n : ℕ} {s : List ℕ} {first : ℕ} {places : List ℕ} → Noting p g n s first first places 0
+pub noting_none : {p g n : ℕ} {x : Walk} {places : List ℕ} → Noting p g n x x places 0
 unfolding flat_map
-noting_none {n = n} = record { leads = rw (sub-zero n); here = λ h. h.begins; noted = λ h k l. absurd (omega arith) }
+noting_none = record { leads = leads_first; here = λ h. h.begins; noted = λ h k l. absurd (omega arith) }
 
-module _ {p g n i : ℕ} {s : List ℕ} {first at : ℕ} {places : List ℕ} (h : Noting p g n s first at places i) where
-  read : i < n → (f : RulesFrom p g n s first)
-      → rule p g s at ≡ got (nth (rules_in s) i) (begin (sheet_in s).states 6 (rules_in s) (suc i))
-  read l f = rw (f.states, f.tags, h.here f) (rule-read f.sheet i (omega (arith, f.number)))
+module _ {p g n i : ℕ} {x y : Walk} {places : List ℕ} (h : Noting p g n x y places i) where
+  read : i < n → (f : RulesFrom p g n x.words.now x.at) → read_by (rule p g) y
+      ≡ got (nth (rules_in x.words.now) i) (begin (sheet_in x.words.now).states 6 (rules_in x.words.now) (suc i))
+  read l f = rw (h.leads.words, f.states, f.tags, h.here f) (rule-read f.sheet i (omega (arith, f.number)))
 
-  pub noting_more : i < n → {u : Result ℕ Bad} {next : ℕ} → u ≡ after (rule p g) s at → u ≡ Ok next → {put : List ℕ} → put ≡ set places i at
-      → Noting p g n s first next put (i + 1)
-  noting_more l eu en ep =
-      let (r, passed) = left_got _ (sym eu ∙ en) in
+  pub noting_more : i < n → {u : Result (Unit {0}) Bad} {z : Walk} → GoesPast (rule p g) y u z → u ≡ Ok tt → {put : List ℕ}
+      → put ≡ set places i y.at → Noting p g n x z put (i + 1)
+  noting_more l k e ep =
+      let (r, passed, _) = taken k e in
       record {
-        leads = loop_more (λ j. rule p g) s n i at h.leads l passed;
-        here = λ f. rw add-one (let e = read l f in cc);
-        noted = λ f. rw ep (begins_more s places i at (h.noted f) (h.here f));
+        leads = leads_more h.leads l k e;
+        here = λ f. rw add-one (let j = read l f in cc);
+        noted = λ f. rw ep (begins_more x.words.now places i y.at (h.noted f) (h.here f));
       }
 
   -- where a word is bad there is nothing to note, and after the last rule all is noted
-  pub noting_stops : i < n → {u : Result ℕ Bad} {b : Bad} {table : List ℕ} → u ≡ after (rule p g) s at → u ≡ Err b
-      → Begins p g n s first table
-  noting_stops l eu eb = record { noted = λ f. absurd (let e = read l f in let d = left_bad _ (sym eu ∙ eb) in cc) }
+  pub noting_stops : i < n → {u : Result (Unit {0}) Bad} {z : Walk} {b : Bad} {table : List ℕ} → GoesPast (rule p g) y u z → u ≡ Err b
+      → Begins p g n x.words.now x.at table
+  noting_stops l k e = record { noted = λ f. absurd (let j = read l f in let d = refused k e in cc) }
 
-  pub noting_all : n ≤ i → Begins p g n s first places
+  pub noting_all : n ≤ i → Begins p g n x.words.now x.at places
   noting_all l = record { noted = λ f k m. h.noted f k (omega arith) }

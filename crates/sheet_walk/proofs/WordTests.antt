@@ -1,7 +1,7 @@
 -- The code's tests of one word are the definition's.
 use mathlib.Core.Path.{◌≡◌, sym}
 use mathlib.Core.Logic.{by_cases}
-use mathlib.Core.Bool.{◌&&◌, ◌||◌, and-false, and_assoc, or-false}
+use mathlib.Core.Bool.{cond, ◌&&◌, ◌||◌, and-false, and_assoc, or-false}
 use Prim.Native.Nat.{ℕ, ◌-◌, ◌/◌, ◌^◌, ◌≤◌, ◌<◌}
 use native.Mathlib.Decide.{dec_lt}
 use native.Mathlib.Nat.{div-lt_iff_lt-mul, one-mul}
@@ -9,22 +9,21 @@ use native.Mathlib.Omega.{arith}
 use lib.Dec.{eqb, ltb, leb}
 use lib.Pow.{pow_pos, pow_mono}
 use borrow.Author.Tests as tests
-use Rattle.std.specs.Prelude.{Option, Some, None}
-use Rattle.std.specs.Option.{SomeIff, unwrap_or}
 use Rattle.model.specs.Sheet.{W, below, arc_of, arc_ok, small, signed}
 use Rattle.model.proofs.Tests.{yes_like, same, eqb_yes}
 
--- no bit at k or above: what a shift leaves, if there is so wide a shift
-pub shifted : (w k : ℕ) → w < W → (o : Option ℕ) → SomeIff o (k < 32) (w / 2 ^ k) → eqb (unwrap_or o 0) 0 ≡ ltb w (2 ^ k)
-shifted w k small None h =
-    let wide : 32 ≤ k = by_cases (dec_lt k 32) (λ l. absurd (h l)) (λ l. omega arith) in
-    let p : W ≤ 2 ^ k = pow_mono wide in
-    sym (tests.lt-ltb w (2 ^ k) (omega arith))
-shifted w k small (Some x) h =
+-- no bit at k or above: what a shift leaves
+pub shifted : (w k : ℕ) → w < W → eqb (cond (ltb k 32) (w / 2 ^ k) 0) 0 ≡ ltb w (2 ^ k)
+shifted w k h = by_cases (dec_lt k 32)
+    (λ l.
     let (below_one, back) = div-lt_iff_lt-mul {x = w} {y = 1} (pow_pos k) in
-    yes_like _ _
-    (λ t. tests.lt-ltb w (2 ^ k) (rw one-mul at (below_one (omega (arith, same x 0 t, h.1)))))
-    (λ t. eqb_yes {m = x} {n = 0} (omega (arith, h.1, back (rw one-mul (tests.ltb-true w (2 ^ k) t)))))
+    rw (tests.lt-ltb k 32 l) (yes_like _ _
+    (λ t. tests.lt-ltb w (2 ^ k) (rw one-mul at (below_one (omega (arith, same (w / 2 ^ k) 0 t)))))
+    (λ t. eqb_yes {m = w / 2 ^ k} {n = 0} (omega (arith, back (rw one-mul (tests.ltb-true w (2 ^ k) t)))))))
+    (λ l.
+    let wide : 32 ≤ k = omega arith in
+    let p : W ≤ 2 ^ k = pow_mono wide in
+    rw (tests.le-ltb k 32 (omega arith)) (sym (tests.lt-ltb w (2 ^ k) (omega arith))))
 
 -- a coefficient: its two ranges as words
 pub coefficient_test : (w : ℕ) → w < W → (leb 1 w && leb w 32767) || leb 4294934528 w ≡ below W w && small (signed w)

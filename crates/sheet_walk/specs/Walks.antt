@@ -1,33 +1,36 @@
--- Where readers leave off: what the contracts of the check's functions say.
-use Rattle.std.specs.Prelude.{◌≡◌, Bool, List, ℕ, ◌<◌, Result, Ok, Err}
+-- How a walk goes on: what the contracts of the check's functions say.
+use Rattle.std.specs.Prelude.{◌≡◌, Bool, ℕ, ◌<◌, Result, Ok, Err}
 use Rattle.sheet_walk.specs.declared.Bad.{Bad}
+use Rattle.sheet_walk.specs.declared.Walk.{Walk}
 use Rattle.model.specs.Lists.{has}
 use Rattle.model.specs.Sheet.{W, Got, got, bad, Reader, mask, set_below}
 
--- the index of the next word, or the first bad one
-unfoldable pub left_at : {A : Type 0} → Got A → Result ℕ Bad
-left_at (got a n) = Ok n
-left_at (bad k) = Err (record { 0 = k })
+-- what a method gives, and the index where the walk then is; a refusal says nothing of that index
+unfoldable pub of_method : {B : Type 0} → Result B Bad → ℕ → Got B
+of_method (Ok b) at = got b at
+of_method (Err b) at = bad b.0
 
--- the same after a reader has read on from an index
-abbrev pub after : {A : Type 0} → Reader A → List ℕ → ℕ → Result ℕ Bad
-after r s at = left_at (r s at)
+-- what a reader gets, with what is made of the value
+unfoldable pub of_reader : {A B : Type 0} → (A → B) → Got A → Got B
+of_reader value (got a n) = got (value a) n
+of_reader value (bad k) = bad k
 
--- the word that was read as well
-unfoldable pub word_left : Got ℕ → Result (ℕ × ℕ) Bad
-word_left (got w n) = Ok (w, n)
-word_left (bad k) = Err (record { 0 = k })
+-- A method goes from one index of the words to another, as a reader does, and gives what is made of the value that this reads.
+pub record Goes {A B : Type 0} (value : A → B) (r : Reader A) (x : Walk) (result : Result B Bad) (y : Walk) : Type 0 where
+  pub words : y.words.now ≡ x.words.now
+  pub gives : of_method result y.at ≡ of_reader value (r x.words.now x.at)
 
-abbrev pub word_after : Reader ℕ → List ℕ → ℕ → Result (ℕ × ℕ) Bad
-word_after r s at = word_left (r s at)
+-- it gives nothing
+abbrev pub GoesPast : {A : Type 0} → Reader A → Walk → Result (Unit {0}) Bad → Walk → Type 0
+GoesPast r = Goes (λ a. tt) r
 
--- the set that was read as well, as the number whose bits are its members
-unfoldable pub set_left : ℕ → Got (List ℕ) → Result (ℕ × ℕ) Bad
-set_left k (got l n) = Ok (mask k (has l), n)
-set_left k (bad i) = Err (record { 0 = i })
+-- it gives the word
+abbrev pub GivesWord : Reader ℕ → Walk → Result ℕ Bad → Walk → Type 0
+GivesWord r = Goes (λ w. w) r
 
-abbrev pub set_after : ℕ → List ℕ → ℕ → Result (ℕ × ℕ) Bad
-set_after k s at = set_left k (set_below k s at)
+-- it gives the set of numbers below k as the number whose bits are its members
+abbrev pub GivesSet : ℕ → Walk → Result ℕ Bad → Walk → Type 0
+GivesSet k = Goes (λ l. mask k (has l)) (set_below k)
 
 -- code that is called on a word makes the test `ok` of it
 abbrev pub Tests : (ℕ → Bool → Type 0) → (ℕ → Bool) → Type 0

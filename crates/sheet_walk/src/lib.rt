@@ -1,16 +1,16 @@
-// Reading a sheet's words, by index. Each function reads on from an index, and gives the next one, or the first bad word.
+// Reading a sheet's words one after another, up to the first bad one.
 #![tactic(auto)]
 
-ghost use Rattle.std.specs.Prelude.{◌≡◌, Bool, ℕ, ◌^◌, ltb};
+ghost use Rattle.std.specs.Prelude.{◌≡◌, Bool, true, ℕ, ◌^◌, ltb};
 ghost use Rattle.model.specs.Lists.{numbers};
-ghost use Rattle.model.specs.Sheet.{W, word, between, below, set_below, all};
+ghost use Rattle.model.specs.Sheet.{W, word, between, below, all};
 ghost use Rattle.model.specs.declared.Refusal.TheVariants.{Sheet};
-ghost use Rattle.sheet_walk.specs.Walks.{after, word_after, set_after, Tests};
+ghost use Rattle.sheet_walk.specs.Walks.{GoesPast, GivesWord, GivesSet, Tests};
 
 use model::Refusal;
 
 // The index of the first word that is out of its range or missing.
-#[derive(Clone, Copy, PartialEq, Eq)]
+#[derive(Clone, Copy)]
 pub struct Bad(pub usize);
 
 impl From<Bad> for Refusal {
@@ -22,76 +22,85 @@ impl From<Bad> for Refusal {
     }
 }
 
-// A `good` word, and the index after it.
-pub fn word<F: Fn(u32) -> bool>(words: &[u32], at: usize, good: F) -> Result<(u32, usize), Bad>
-    requires { F.IsAlwaysCallable good }
-    ensures { (ok : ℕ → Bool) → Tests (F.post good) ok → result ≡ word_after (word ok) words.now at }
-{
-    match words.get(at) {
-        Some(&w) if good(w) => Ok((w, at + 1)),
-        _ => Err(Bad(at)),
-    }
-}
-
-// Any word, and the index after it.
-pub fn any_word(words: &[u32], at: usize) -> Result<(u32, usize), Bad>
-    ensures { result ≡ word_after (word (below W)) words.now at }
-{
-    word(words, at, |_| true)
-}
-
-// A word from `low` to `high`, and the index after it.
-pub fn between(words: &[u32], at: usize, low: u32, high: u32) -> Result<(u32, usize), Bad>
-    ensures { result ≡ word_after (word (between low high)) words.now at }
-{
-    word(words, at, |w| (low <= w) & (w <= high))
-}
-
-// The index after a word below `n`.
-pub fn below(words: &[u32], at: usize, n: u32) -> Result<usize, Bad>
-    ensures { result ≡ after (word (below n)) words.now at }
-{
-    let (_, next) = word(words, at, |w| w < n)?;
-    Ok(next)
-}
-
 // Whether a word has no bit at `k` or above.
 fn within_bits(w: u32, k: u32) -> bool
     ensures { result ≡ ltb w (2 ^ k) }
 {
-    w.checked_shr(k).unwrap_or(0) == 0
+    w.unbounded_shr(k) == 0
 }
 
-// A word with no bit at `k` or above, and the index after it.
-fn bits_below(words: &[u32], at: usize, k: u32) -> Result<(u32, usize), Bad>
-    ensures { result ≡ word_after (word (below (2 ^ k))) words.now at }
-{
-    word(words, at, |w| within_bits(w, k))
+// A sheet's words, and the index of the next that is read.
+#[derive(Clone, Copy)]
+pub struct Walk<'a> {
+    pub words: &'a [u32],
+    pub at: usize,
 }
 
-// A set of numbers below `k`, from its low word and its high one, and the index after them.
-pub fn set_below(words: &[u32], at: usize, k: u32) -> Result<(u64, usize), Bad>
-    ensures { result ≡ set_after k words.now at }
-{
-    let (low, at) = bits_below(words, at, k.min(32))?;
-    let (high, at) = bits_below(words, at, k.saturating_sub(32))?;
-    Ok((bits::of_words(low, high), at))
-}
-
-// The index after `n` good words.
-pub fn all_good<F: Fn(u32) -> bool>(
-    words: &[u32],
-    first: usize,
-    n: u32,
-    good: F,
-) -> Result<usize, Bad>
-    requires { F.IsAlwaysCallable good }
-    ensures { (ok : ℕ → Bool) → Tests (F.post good) ok → result ≡ after (all (λ i. word ok) (numbers n)) words.now first }
-{
-    let mut at = first;
-    for _ in 0..n {
-        let (_, next) = word(words, at, &good)?;
-        at = next;
+impl<'a> Walk<'a> {
+    // A `good` word.
+    pub fn word<F: Fn(u32) -> bool>(&mut self, good: F) -> Result<u32, Bad>
+        requires { F.IsAlwaysCallable good }
+        ensures { (ok : ℕ → Bool) → Tests (F.post good) ok → GivesWord (word ok) self.old result self.new }
+    {
+        match self.words.get(self.at).copied() {
+            Some(w) if good(w) => {
+                self.at += 1;
+                Ok(w)
+            }
+            _ => Err(Bad(self.at)),
+        }
     }
-    Ok(at)
+
+    // Any word.
+    pub fn any_word(&mut self) -> Result<u32, Bad>
+        ensures any { GivesWord (word (λ w. true)) self.old result self.new }
+        ensures small { GivesWord (word (below W)) self.old result self.new }
+    {
+        self.word(|_| true)
+    }
+
+    // A word from `low` to `high`.
+    pub fn between(&mut self, low: u32, high: u32) -> Result<u32, Bad>
+        ensures { GivesWord (word (between low high)) self.old result self.new }
+    {
+        self.word(|w| (low <= w) & (w <= high))
+    }
+
+    // Goes past a word below `n`.
+    pub fn below(&mut self, n: u32) -> Result<(), Bad>
+        ensures { GoesPast (word (below n)) self.old result self.new }
+    {
+        self.word(|w| w < n)?;
+        Ok(())
+    }
+
+    // A word with no bit at `k` or above.
+    fn bits_below(&mut self, k: u32) -> Result<u32, Bad>
+        ensures { GivesWord (word (below (2 ^ k))) self.old result self.new }
+    {
+        self.word(|w| within_bits(w, k))
+    }
+
+    // A set of numbers below `k`, from its low word and its high one.
+    pub fn set_below(&mut self, k: u32) -> Result<u64, Bad>
+        ensures { GivesSet k self.old result self.new }
+    {
+        let low = self.bits_below(k.min(32))?;
+        let high = self.bits_below(k.saturating_sub(32))?;
+        Ok(bits::of_words(low, high))
+    }
+
+    // Goes past `n` good words.
+    pub fn all_good<F: Fn(u32) -> bool>(&mut self, n: u32, good: F) -> Result<(), Bad>
+        requires { F.IsAlwaysCallable good }
+        ensures { (ok : ℕ → Bool) → Tests (F.post good) ok → GoesPast (all (λ i. word ok) (numbers n)) self.old result self.new }
+    {
+        // A copy keeps the index in a register: a seventh fewer instructions on a sheet of arcs.
+        let mut walk = *self;
+        for _ in 0..n {
+            walk.word(&good)?;
+        }
+        *self = walk;
+        Ok(())
+    }
 }

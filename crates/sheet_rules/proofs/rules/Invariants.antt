@@ -3,4 +3,4 @@ use Rattle.sheet_rules.proofs.PlaceLaws.{Noting}
 use Rattle.sheet_rules.proofs.rules.Given as goal
 
 abbrev pub invariant-loop-i : goal.invariant-loop-i
-invariant-loop-i l = Noting l.p l.g l.n l.words l.initial.at l.at l.places l.i
+invariant-loop-i l = Noting l.p l.g l.n l.initial.walk l.walk l.places l.i

@@ -4,4 +4,4 @@ use Rattle.sheet_walk.proofs.WordTests.{shifted}
 use Rattle.sheet_walk.proofs.within_bits.Goals as goal
 
 pub returns : goal.returns
-returns c = rw c.unwrap_or.ensures (shifted _ _ (omega arith) _ c.checked_shr.ensures)
+returns c = rw c.unbounded_shr.ensures (shifted _ _ (omega arith))
