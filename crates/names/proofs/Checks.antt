@@ -21,7 +21,7 @@ use Rattle.model.proofs.Tests.{never, eqb_like}
 use Rattle.model.proofs.NameLaws.{same-bytes_refl, number_at}
 use Rattle.offsets.specs.Lines.{line, start_of, line_count, Indexed}
 use Rattle.offsets.proofs.LineLaws.{Begins, start-next, begins-some, begins_none, begins-at}
-use Rattle.offsets.proofs.IndexLaws.{indexed-last}
+use Rattle.offsets.proofs.IndexLaws.{indexed-line}
 use Rattle.tags.specs.declared.Table.{Table}
 use Rattle.tags.specs.Tables.{name_by, first_of, bucket, along, linked, tag_or_none, TableOf}
 use Rattle.tags.proofs.TagLaws.{name_is}
@@ -97,20 +97,23 @@ module _ {list : List ℕ} {table : Table} {k : ℕ} (made : TableOf list table 
   unfolding name_of
   name-there = let m : k + 1 - 1 ≡ k = omega arith in sym (rw m at own_name)
 
-  good-is : good_line (lines list) k (line list k) ≡
-      (named_line list (get_or table.starts (k + 1) 0) name && eqb (number_from 0 name (take k (lines list))) 0)
+  good-is : good_line (lines list) k (line list k) ≡ (named_line (line list k) && eqb (number_from 0 name (take k (lines list))) 0)
   unfolding good_line named_line
-  good-is = rw (lt-ltb k 64 (omega arith), name-there, indexed-last list table.starts made.index k h)
-      (regroup (leb (length name) 24) (eqb (get_or list (get_or table.starts (k + 1) 0 - 1) 0) 10) (is_name name)
-      (eqb (number_from 0 name (take k (lines list))) 0))
+  good-is = rw (lt-ltb k 64 (omega arith), ← name-there)
+      (regroup (leb (length (bare (line list k))) 24) (eqb (get_or (line list k) (length (line list k) - 1) 0) 10)
+      (is_name (bare (line list k))) (eqb (number_from 0 (bare (line list k)) (take k (lines list))) 0))
 
   -- what is told of the line, and the table then
   abbrev Told : Bool → Table → Type 0
   Told good after = (good ≡ good_line (lines list) k (line list k)) × TableOf list after (cond good (k + 1) k)
 
-  module _ {well : Bool} (asked : well ≡ named_line list (get_or table.starts (k + 1) 0) name) where
+  module _ {well : Bool} (asked : well ≡ named_line (take (get_or table.starts (k + 1) 0 - get_or table.starts k 0)
+      (drop (get_or table.starts k 0) list))) where
+    asked_line : well ≡ named_line (line list k)
+    asked_line = asked ∙ ap named_line (indexed-line list table.starts made.index k h)
+
     pub told_unnamed : well ≡ false → Told false table
-    told_unnamed e = (sym (good-is ∙ rw (sym asked ∙ e)), made)
+    told_unnamed e = (sym (good-is ∙ rw (sym asked_line ∙ e)), made)
 
     module _ (e : well ≡ true) {chain : ℕ} {same : Option ℕ} (is : chain ≡ bucket name) (small : chain < 64)
         (along-is : same ≡ tag_or_none (along list table name 64 (first_of table chain))) where
@@ -118,13 +121,14 @@ module _ {list : List ℕ} {table : Table} {k : ℕ} (made : TableOf list table 
       r = along list table name 64 (first_of table chain)
 
       good_by : good_line (lines list) k (line list k) ≡ eqb r 0
-      good_by = good-is ∙ rw (sym asked ∙ e, number_is (omega arith) (found made (omega arith) name is small refl))
+      good_by = good-is ∙ rw (sym asked_line ∙ e, number_is (omega arith) (found made (omega arith) name is small refl))
 
       pub told_repeated : is_some same ≡ true → Told false table
       told_repeated n = (sym (good_by ∙ ne_eqb r 0 (some_tag r (rw along-is at n))), made)
 
       pub told_entered : is_some same ≡ false → {after : Table} → after ≡ linked table chain (k + 1) → Told true after
-      told_entered z l = (sym (good_by ∙ eq-eqb r 0 (no_tag r (rw along-is at z))), table_more made (omega arith) (is ∙ ap bucket own_name) small l)
+      told_entered z l =
+          (sym (good_by ∙ eq-eqb r 0 (no_tag r (rw along-is at z))), table_more made (omega arith) (is ∙ ap bucket own_name) small l)
 
 -- the table after a line that is told so
 pub after_line : (list : List ℕ) (table : Table) (k : ℕ) {good b : Bool} → good ≡ b → TableOf list table (cond good (k + 1) k)

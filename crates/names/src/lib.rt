@@ -36,6 +36,7 @@ pub fn check(list: &[u8]) -> Result<usize, Refusal>
 
 // Whether line k is a name of at most 24 bytes and a line feed, and no line before it holds the name. If so, its tag becomes the
 // first of its chain; only that chain can hold the name.
+// kept: the table is looked up by line k, by tag and by chain, so a struct of the table and k would be taken apart again right here
 fn enter(list: &[u8], table: &mut Table, k: usize) -> bool
     requires { (k < line_count list.now) × TableOf list.now table.old k }
     ensures good { result ≡ good_line (lines list.now) k (line list.now k) }
@@ -43,7 +44,7 @@ fn enter(list: &[u8], table: &mut Table, k: usize) -> bool
 {
     let tag = k + 1;
     let name = table.name_of(list, tag);
-    if !named_line(list, table.starts[tag], name) {
+    if !named_line(&list[table.starts[k]..table.starts[tag]]) {
         return false;
     }
     let chain = tags::bucket(name);

@@ -1,7 +1,7 @@
 // Tags by their names.
 #![tactic(auto)]
 
-ghost use Rattle.std.specs.Prelude.{◌≡◌, true, ◌≤◌, length, drop};
+ghost use Rattle.std.specs.Prelude.{◌≡◌, true};
 ghost use Rattle.model.specs.Bytes.{is_name, same_bytes};
 ghost use Rattle.model.specs.Names.{tag_of};
 ghost use Rattle.model.specs.Text.{name_at};
@@ -9,24 +9,23 @@ ghost use Rattle.offsets.specs.Lines.{line_count};
 ghost use Rattle.tags.specs.Tables.{name_by, tag_or_none, empty, TableOf};
 ghost use Rattle.read_names.specs.Listing.{Listing};
 
-use read_runs::class_at;
+use chars::Class;
 use tags::Table;
 
-// Whether the name that begins at an offset, which goes on as far as it can, is the one that is given.
-pub fn named(text: &[u8], at: usize, name: &[u8]) -> bool
-    requires at_in_bounds { at ≤ length text.now }
-    requires name_value { is_name name.now ≡ true }
-    ensures { result ≡ same_bytes name.now (name_at (drop at text.now)) }
+// Whether the name at the front of some bytes, which goes on as far as it can, is the one that is given.
+pub fn named(bytes: &[u8], name: &[u8]) -> bool
+    requires { is_name name.now ≡ true }
+    ensures { result ≡ same_bytes name.now (name_at bytes.now) }
 {
-    if text.len() - at < name.len() {
+    if bytes.len() < name.len() {
         return false;
     }
-    let end = at + name.len();
-    if !offsets::same_bytes(name, &text[at..end]) {
+    let (front, rest) = bytes.split_at(name.len());
+    if !offsets::same_bytes(name, front) {
         return false;
     }
-    match class_at(text, end) {
-        Some(after) => !after.in_name(),
+    match rest.first() {
+        Some(after) => !Class::from(*after).in_name(),
         None => true,
     }
 }
@@ -37,8 +36,7 @@ pub fn chain(list: &[u8], table: &mut Table)
     ensures { TableOf list.now table.new (line_count list.now) }
 {
     let count = table.index(list);
-    for chained in 0..count {
-        let tag = chained + 1;
+    for tag in 1..=count {
         let name = table.name_of(list, tag);
         table.link(tags::bucket(name), tag);
     }

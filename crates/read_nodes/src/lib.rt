@@ -1,20 +1,20 @@
 // Nodes, each packed into one word of four fields: symbol, size, text start, text length.
 #![tactic(auto)]
 
-ghost use Rattle.std.specs.Prelude.{◌++◌, ◌≡◌, ◌+◌, ◌*◌, ◌≤◌, ◌<◌, length, take, drop};
-ghost use Rattle.std.proofs.lemmas.List.Edits.{sets};
-ghost use Rattle.read_nodes.specs.Packed.{packed, unpacked, all_unpacked, closed_words, closed_scan};
+ghost use Rattle.std.specs.Prelude.{◌++◌, ◌≡◌, ◌*◌, ◌≤◌, ◌<◌, length, drop};
+ghost use Rattle.read_nodes.specs.Packed.{packed, all_unpacked};
 
 use layout::{MOST_NODES, NODE_WORDS};
-use read_scan::Scan;
 
 // The number of values of a field of a node's word.
 pub const FIELD: u64 = 65536;
 
 // A word for each node.
+// kept: a type of a node's word would have a method for each of its fields, each used in one place
 pub type Words = [u64; MOST_NODES];
 
 // A node's word.
+#[tactic(auto, unfolding(crate::specs::Packed::packed))]
 pub fn packed(symbol: u64, size: u64, start: u64, bytes: u64) -> u64
     requires { (symbol < 65536) × (size < 65536) × (start < 65536) × (bytes < 65536) }
     ensures { result ≡ packed symbol size start bytes }
@@ -22,40 +22,18 @@ pub fn packed(symbol: u64, size: u64, start: u64, bytes: u64) -> u64
     symbol + FIELD * (size + FIELD * (start + FIELD * bytes))
 }
 
-// The first n nodes, as four words each, at the front of the tree.
-pub fn unpack(words: &Words, n: usize, tree: &mut [u32])
-    requires { (length words.now ≡ 4096) × (n ≤ 4096) × (4 * n ≤ length tree.old) }
-    ensures { tree.new ≡ all_unpacked (take n words.now) ++ drop (4 * n) tree.old }
+// Nodes, as four words each, at the front of the tree.
+pub fn unpack(nodes: &[u64], tree: &mut [u32])
+    requires { 4 * length nodes.now ≤ length tree.old }
+    ensures { tree.new ≡ all_unpacked nodes.now ++ drop (4 * length nodes.now) tree.old }
 {
-    for k in 0..n {
-        put_node(tree, NODE_WORDS * k, words[k]);
-    }
-}
-
-// A node, as four words from an index on.
-fn put_node(tree: &mut [u32], at: usize, word: u64)
-    requires { at + 4 ≤ length tree.old }
-    ensures { tree.new ≡ sets tree.old at (unpacked word) }
-{
-    tree[at] = (word % FIELD) as u32;
-    tree[at + 1] = (word / FIELD % FIELD) as u32;
-    tree[at + 2] = (word / FIELD / FIELD % FIELD) as u32;
-    tree[at + 3] = (word / FIELD / FIELD / FIELD) as u32;
-}
-
-// The innermost open element ends: its size takes the place of its parent's node. The parent is the innermost one then.
-pub fn close(s: Scan, at: usize, words: &mut Words) -> Scan
-    requires { (s.top < s.nodes) × (s.nodes ≤ 4096) × (1 ≤ s.depth) }
-    ensures scan { result ≡ closed_scan words.old s at }
-    ensures words { words.new ≡ closed_words words.old s }
-{
-    let top = s.top;
-    let word = words[top];
-    words[top] = word % FIELD + FIELD * ((s.nodes - top) as u64);
-    Scan {
-        at,
-        top: (word / FIELD) as usize,
-        depth: s.depth - 1,
-        ..s
+    // kept: tried with `chunks_exact_mut(NODE_WORDS).zip(nodes)`, and the proof didn't close: no invariant can name what the tree holds
+    for k in 0..nodes.len() {
+        let word = nodes[k];
+        let at = NODE_WORDS * k;
+        tree[at] = (word % FIELD) as u32;
+        tree[at + 1] = (word / FIELD % FIELD) as u32;
+        tree[at + 2] = (word / FIELD / FIELD % FIELD) as u32;
+        tree[at + 3] = (word / FIELD / FIELD / FIELD) as u32;
     }
 }

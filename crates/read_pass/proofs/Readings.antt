@@ -30,12 +30,12 @@ use Rattle.tags.specs.declared.Table.{Table}
 use Rattle.tags.specs.Tables.{name_by}
 use Rattle.read_names.specs.Listing.{Listing}
 use Rattle.read_nodes.specs.Packed.{packed, unpacked, closed_words, closed_scan, Holds, outermost, inside}
-use Rattle.read_scan.specs.Scans.{at_offset, stop_number, stop_by}
+use Rattle.read_scan.specs.Scans.{at_offset, scan_at, stop_number, stop_by}
 use Rattle.read_pass.specs.Reading.{Reads, ReadsAt, AtStartTag, InContent, AtToken, Solid, Refuses, Step, Goes, Whole}
 use Rattle.read_runs.specs.Runs.{run, class_within, first_class, trim}
 use Rattle.read_scan.specs.declared.Scan.{Scan}
 use Rattle.model.proofs.TextLaws.{kind_range}
-use Rattle.read_runs.proofs.RunLaws.{byte_there, no_white_run, run-within, name-run, name-first, name-length, text_run}
+use Rattle.read_runs.proofs.RunLaws.{byte_there, no_white_run, run-within, name-run, name-first, name-length, text_run, trim-most}
 use Rattle.read_names.proofs.TagLaws.{named_well, tag_named, tag_other}
 use Rattle.read_pass.proofs.Steps.{onward}
 use Rattle.read_pass.proofs.Tokens.{Waits, before_waits, blank_waits, start_gap_waits, end_gap_waits, after_waits, Leads, at-root}
@@ -198,12 +198,10 @@ module _ {list text words : List ℕ} {table : Table} {s : Scan} (listing : List
         refused r (too_many list text r.content r.opened s.nodes leads s.at a.opening a.letter_next
         (omega (arith, r.deep)) h) refl
 
-    module _ (few : s.nodes < 4096) (end tag : ℕ) (skipped : end ≡ s.at + 1 + run (class_within 1 3) (drop (s.at + 1) text))
-        (found : tag ≡ tag_of list (take (end - (s.at + 1)) (drop (s.at + 1) text))) where
+    module _ (few : s.nodes < 4096) (bytes tag : ℕ) (bytes_is : bytes ≡ run (class_within 1 3) (drop (s.at + 1) text))
+        (found : tag ≡ tag_of list (take bytes (drop (s.at + 1) text))) where
       tag_is : tag_of list (name_at (drop (s.at + 1) text)) ≡ tag
-      tag_is =
-          let n : end - (s.at + 1) ≡ run (class_within 1 3) (drop (s.at + 1) text) = omega arith in
-          ap (tag_of list) (name-run (drop (s.at + 1) text) ∙ ap (λ (m : ℕ). take m (drop (s.at + 1) text)) (sym n)) ∙ sym found
+      tag_is = ap (tag_of list) (name-run (drop (s.at + 1) text) ∙ ap (λ (m : ℕ). take m (drop (s.at + 1) text)) (sym bytes_is)) ∙ sym found
 
       pub tag_unknown : tag ≡ 0 → Refuses (form_of list text) (UnknownName (s.at + 1))
       unfolding said_refusal
@@ -218,7 +216,7 @@ module _ {list text words : List ℕ} {table : Table} {s : Scan} (listing : List
 
         -- the element is open
         pub tag_opens : (w : ℕ) → w ≡ packed tag s.top 0 0 → ReadsAt list text (set words s.nodes w) start_gap
-            (record { at = end; top = s.nodes; depth = s.depth + 1; nodes = s.nodes + 1 })
+            (record { at = s.at + 1 + bytes; top = s.nodes; depth = s.depth + 1; nodes = s.nodes + 1 })
         tag_opens w e =
             let r = a.reads in
             let n : s.nodes + 1 ≡ suc s.nodes = add-one s.nodes in
@@ -228,12 +226,12 @@ module _ {list text words : List ℕ} {table : Table} {s : Scan} (listing : List
               goes =
                   r.goes ∙ opened list text r.content r.opened s.nodes leads s.at a.opening a.letter_next
                   (omega (arith, r.deep)) few (λ z. listed (sym tag_is ∙ z))
-                  ∙ rw (tag_is, skipped);
+                  ∙ rw (tag_is, bytes_is);
               holds = holds_open r.holds (e ∙ packed_tag tag s.top) (omega arith) tag_listed r.above (omega (arith, r.room));
               deep = omega (arith, r.deep);
               above = omega arith;
               few = few;
-              within = rw skipped (run-within (class_within 1 3) text (s.at + 1) (omega (arith, name-there)));
+              within = rw bytes_is (run-within (class_within 1 3) text (s.at + 1) (omega (arith, name-there)));
               short = r.short;
               room = length-set words s.nodes w ∙ r.room;
             })
@@ -254,12 +252,14 @@ innermost-there (outermost s) h = absurd (omega arith)
 innermost-there (inside at s rest) h = record
     { read = omega (arith, s.count); tag_is = open_tag at (omega arith); some = at.tag_some; listed = at.tag_few }
 
+-- where an element is open, its node is read
+pub top_inside : {list text words : List ℕ} {place : List Open → Place} {s : Scan} → Reads list text words place s → 1 ≤ s.depth
+    → s.top < s.nodes
+top_inside r deep = (innermost-there r.holds (omega (arith, r.deep))).read
+
 module _ {list text words : List ℕ} {s : Scan} (r : ReadsAt list text words end_open s) (deep : 1 ≤ s.depth) where
   top : Innermost list words r.opened s.top s.nodes
   top = innermost-there r.holds (omega (arith, r.deep))
-
-  pub top_inside : s.top < s.nodes
-  top_inside = top.read
 
   top_tag_some : 1 ≤ get_or words s.top 0 % 65536
   top_tag_some = rw top.tag_is top.some
@@ -327,64 +327,75 @@ module _ {list text words : List ℕ} {s : Scan} (r : ReadsAt list text words bl
       refused r (text_too_many list text r.content r.opened s.nodes s.at _ refl solid.no_white solid.no_less
       solid.no_greater solid.allowed h) refl
 
-  module _ (few : s.nodes < 4096) (stop class : ℕ) (stop_is : stop ≡ s.at + run text_byte (drop s.at text))
-      (told : class ≡ first_class (drop stop text)) where
-    pub text_stuck : class ≢ 4 → Refuses (form_of list text) (stop_by class stop)
-    text_stuck h =
-        rw stop_is (stopped r class _
-        (text_broken list text r.content r.opened s.nodes s.at _ refl solid.no_white solid.no_less solid.no_greater
-        solid.allowed few class (rw (← stop_is) (sym told)) h))
+  module _ (few : s.nodes < 4096) (bytes class : ℕ) (bytes_is : bytes ≡ run text_byte (drop s.at text))
+      (told : class ≡ first_class (drop (s.at + bytes) text)) where
+    behind-it : class ≡ first_class (drop (text_end text s.at) text)
+    behind-it = told ∙ ap (λ (n : ℕ). first_class (drop (s.at + n) text)) bytes_is
 
-    pub text_later : class ≡ 4 → s.at < stop
-    text_later e = by (ℕ_discrete stop s.at)
+    pub text_stuck : class ≢ 4 → Refuses (form_of list text) (stop_by class (s.at + bytes))
+    text_stuck h =
+        rw bytes_is (stopped r class _
+        (text_broken list text r.content r.opened s.nodes s.at _ refl solid.no_white solid.no_less solid.no_greater
+        solid.allowed few class (sym behind-it) h))
+
+    pub text_later : class ≡ 4 → s.at < s.at + bytes
+    text_later e = by (ℕ_discrete bytes 0)
       where
-        by : Dec (stop ≡ s.at) → s.at < stop
-        by (yes z) = absurd (solid.no_less (ap (λ (i : ℕ). first_class (drop i text)) (sym z) ∙ sym told ∙ e))
+        by : Dec (bytes ≡ 0) → s.at < s.at + bytes
+        by (yes z) =
+            let here : s.at + bytes ≡ s.at = omega arith in
+            absurd (solid.no_less (ap (λ (i : ℕ). first_class (drop i text)) (sym here) ∙ sym told ∙ e))
         by (no z) = omega arith
 
-    -- the text, up to its last byte that is not white
-    module _ (less_there : class ≡ 4) (end : ℕ) (begun : s.at ≤ end) (before_stop : end ≤ stop)
-        (trimmed-is : take (end - s.at) (drop s.at text) ≡ trim (take (stop - s.at) (drop s.at text))) where
-      text_is : text_at (drop s.at text) ≡ take (end - s.at) (drop s.at text)
+    bytes_within : s.at + bytes ≤ length text
+    bytes_within = rw bytes_is (run-within text_byte text s.at r.within)
+
+    -- the text, trimmed
+    module _ (less_there : class ≡ 4) (t : List ℕ) (trimmed-is : t ≡ trim (take bytes (drop s.at text))) where
+      pub text_short : s.at + length t ≤ length text
+      text_short = omega (
+        arith,
+        ap (λ (l : List ℕ). length l) trimmed-is,
+        trim-most (take bytes (drop s.at text)),
+        length-take-le bytes (drop s.at text) (rw length-drop (omega (arith, bytes_within))),
+        bytes_within,
+        r.within,
+      )
+
+      text_is : text_at (drop s.at text) ≡ t
       text_is =
-          let n : stop - s.at ≡ run text_byte (drop s.at text) = omega arith in
-          let e : first_class (drop (run text_byte (drop s.at text)) (drop s.at text)) ≡ 4 = rw (drop-drop, ← stop_is)
-          (sym told ∙ less_there) in
-          text_run (drop s.at text) e ∙ ap (λ (m : ℕ). trim (take m (drop s.at text))) (sym n) ∙ sym trimmed-is
+          let e : first_class (drop (run text_byte (drop s.at text)) (drop s.at text)) ≡ 4 = rw drop-drop (sym behind-it ∙ less_there) in
+          text_run (drop s.at text) e ∙ ap (λ (m : ℕ). trim (take m (drop s.at text))) (sym bytes_is) ∙ sym trimmed-is
 
-      module _ (kind w : ℕ) (kind-is : kind ≡ kind_of_text (take (end - s.at) (drop s.at text)))
-          (word-is : w ≡ packed (64 + kind) 1 s.at (end - s.at)) where
+      module _ (kind w : ℕ) (kind-is : kind ≡ kind_of_text t) (word-is : w ≡ packed (64 + kind) 1 s.at (length t)) where
         abbrev span : Span
-        span = record { start = s.at; bytes = end - s.at }
-
-        stop_within : stop ≤ length text
-        stop_within = rw stop_is (run-within text_byte text s.at r.within)
+        span = record { start = s.at; bytes = length t }
 
         node-is : text_node s.at (text_at (drop s.at text)) ≡ Element.text kind span
         unfolding text_node
-        node-is = rw (text_is, ← kind-is, length-take-le (end - s.at) (drop s.at text) (rw length-drop (omega (arith, stop_within))))
+        node-is = rw (text_is, ← kind-is)
 
         pub text_read : Reads list text (set words s.nodes w) outside
-            (record { at = stop; top = s.top; depth = s.depth; nodes = s.nodes + 1 })
+            (record { at = s.at + bytes; top = s.top; depth = s.depth; nodes = s.nodes + 1 })
         text_read =
             let n : s.nodes + 1 ≡ suc s.nodes = add-one s.nodes in
-            let less_next : first_class (drop (text_end text s.at) text) ≡ 4 = rw (← stop_is) (sym told ∙ less_there) in
+            let less_next : first_class (drop (text_end text s.at) text) ≡ 4 = sym behind-it ∙ less_there in
             rw n (reads-outside deep (record {
               content = behind r.content (Element.text kind span);
               opened = r.opened;
               goes =
                   r.goes ∙ text_ends list text r.content r.opened s.nodes s.at _ refl solid.no_white solid.no_less
                   solid.no_greater solid.allowed few less_next
-                  ∙ rw (node-is, stop_is);
+                  ∙ rw (node-is, bytes_is);
               holds =
                   holds_text r.holds w kind span (omega (arith, r.room))
-                  (ap unpacked word-is ∙ unpacked-packed (64 + kind) 1 s.at (end - s.at)
-                  (omega (arith, kind_range (take (end - s.at) (drop s.at text)))) (omega arith)
+                  (ap unpacked word-is ∙ unpacked-packed (64 + kind) 1 s.at (length t)
+                  (omega (arith, kind_range t)) (omega arith)
                   (omega (arith, r.within, r.short)));
               deep = r.deep;
               above = omega (arith, r.above);
               few = few;
-              within = stop_within;
+              within = bytes_within;
               short = r.short;
               room = length-set words s.nodes w ∙ r.room;
             }))
@@ -477,49 +488,46 @@ goes-from list text words (Err x) h r = r
 
 -- ---- before the root
 
-abbrev pub scan-at : ℕ → Scan
-scan-at at = record { at = at; top = 0; depth = 0; nodes = 0 }
+pub first-there : (list text words : List ℕ) → length text ≤ 65535 → length words ≡ 4096 → ReadsAt list text words before (scan_at 0)
+first-there list text words short room = record {
+  content = ε;
+  opened = [];
+  goes = scan-is list text ∙ rw (le-leb (length text) 65535 short);
+  holds = holds_none;
+  deep = refl;
+  above = omega arith;
+  few = omega arith;
+  within = omega arith;
+  short = short;
+  room = room;
+}
 
-module _ (list text words : List ℕ) (short : length text ≤ 65535) (room : length words ≡ 4096) where
-  first-there : ReadsAt list text words before (scan-at 0)
-  first-there = record {
-    content = ε;
-    opened = [];
-    goes = scan-is list text ∙ rw (le-leb (length text) 65535 short);
-    holds = holds_none;
-    deep = refl;
-    above = omega arith;
-    few = omega arith;
-    within = omega arith;
-    short = short;
-    room = room;
-  }
+module _ {list text words : List ℕ} {s : Scan} (r : ReadsAt list text words before s) (at class : ℕ)
+    (skipped : at ≡ s.at + run (class_within 0 0) (drop s.at text)) (told : class ≡ first_class (drop at text)) where
+  root-there : ReadsAt list text words before (at_offset s at)
+  root-there = past_white r at skipped before_waits
 
-  module _ (at class : ℕ) (skipped : at ≡ 0 + run (class_within 0 0) (drop 0 text)) (told : class ≡ first_class (drop at text)) where
-    root-there : ReadsAt list text words before (scan-at at)
-    root-there = past_white first-there at skipped before_waits
+  pub root_stuck : class ≢ 4 → Refuses (form_of list text) (stop_by class at)
+  root_stuck h =
+      stopped root-there class at (stuck_before list text root-there.content root-there.opened s.nodes at class (sym told)
+      (no_white_left r at skipped class told) h)
 
-    pub root_stuck : class ≢ 4 → Refuses (form_of list text) (stop_by class at)
-    root_stuck h =
-        stopped root-there class at (stuck_before list text root-there.content root-there.opened 0 at class (sym told)
-        (no_white_left first-there at skipped class told) h)
+  module _ (less_there : class ≡ 4) (next : ℕ) (told_next : next ≡ first_class (drop (at + 1) text)) where
+    pub root_open_stuck : next ≢ 1 → Refuses (form_of list text) (stop_by next (at + 1))
+    root_open_stuck h =
+        stopped root-there next (at + 1)
+        (less_on list text root-there.content root-there.opened s.nodes at-root at (sym told ∙ less_there) (λ e. h (told_next ∙ e))
+        ∙ stuck_root_open list text root-there.content root-there.opened s.nodes (at + 1) next (sym told_next) h)
 
-    module _ (less_there : class ≡ 4) (next : ℕ) (told_next : next ≡ first_class (drop (at + 1) text)) where
-      pub root_open_stuck : next ≢ 1 → Refuses (form_of list text) (stop_by next (at + 1))
-      root_open_stuck h =
-          stopped root-there next (at + 1)
-          (less_on list text root-there.content root-there.opened 0 at-root at (sym told ∙ less_there) (λ e. h (told_next ∙ e))
-          ∙ stuck_root_open list text root-there.content root-there.opened 0 (at + 1) next (sym told_next) h)
-
-      pub root_tag : next ≡ 1 → AtStartTag list text words (scan-at at)
-      root_tag e = record {
-        place = before;
-        leads = inl refl;
-        reads = root-there;
-        opening = sym told ∙ less_there;
-        letter_next =
-            sym told_next ∙ e;
-      }
+    pub root_tag : next ≡ 1 → AtStartTag list text words (at_offset s at)
+    root_tag e = record {
+      place = before;
+      leads = inl refl;
+      reads = root-there;
+      opening = sym told ∙ less_there;
+      letter_next =
+          sym told_next ∙ e;
+    }
 
 -- ---- after the root
 

@@ -57,25 +57,18 @@ pub record Refuses (form : Checked Document) (r : Refusal) : Type 0 where
   pub is : form ≡ refuses number place
   pub says : said_refusal r ≡ refusal number place
 
--- after a token the text is read so, or it is refused
+-- how far the text is read after a token, or the refusal
 abbrev pub Step : Type 0
 Step = Result Scan Refusal
 
+-- after a token the text is read so, or it is refused
 abbrev pub After : (form : Checked Document) → (Scan → Type 0) → Step → Type 0
 After form So (Ok s) = So s
 After form So (Err r) = Refuses form r
 
--- after the white before the root, by whatever list and words
-abbrev pub Begins : (text : List ℕ) → Step → Type 0
-Begins text step = (list words : List ℕ) → length words ≡ 4096 → After (form_of list text) (AtStartTag list text words) step
-
 -- After a token that begins at offset i or behind it: in content, or after the root, and further on; or refused.
 abbrev pub Goes : (list text words : List ℕ) (i : ℕ) → Step → Type 0
 Goes list text words i step = After (form_of list text) (λ s. (i < s.at) × Reads list text words outside s) step
-
--- where the text is read up to a place, by whatever list, a token goes so
-abbrev pub GoesFrom : Place → (text words then : List ℕ) → Scan → Step → Type 0
-GoesFrom place text words then s step = (list : List ℕ) → ReadsAt list text words place s → Goes list text then s.at step
 
 -- the whole text is read: the words hold its n nodes
 pub record Whole (list text words : List ℕ) (n : ℕ) : Type 0 where
@@ -89,7 +82,3 @@ pub record Whole (list text words : List ℕ) (n : ℕ) : Type 0 where
 abbrev pub Scanned : (list text words : List ℕ) → Answer → Type 0
 Scanned list text words (Ok n) = Whole list text words n
 Scanned list text words (Err r) = Refuses (form_of list text) r
-
--- where a text is read up to a scan, by whatever list and words, it is answered so
-abbrev pub Ends : (text : List ℕ) → Scan → Answer → Type 0
-Ends text s answer = (list words : List ℕ) → Reads list text words outside s → Scanned list text words answer

@@ -6,32 +6,38 @@ use mathlib.Core.List.{List, [], ◌∷◌, ◌++◌}
 use Prim.Native.Nat.{ℕ, zero, suc, ◌+◌, ◌-◌, ◌≤◌, ◌<◌}
 use native.Mathlib.Numerals.{add-one}
 use native.Mathlib.Omega.{arith}
-use native.Mathlib.Decide.{dec_lt}
-use lib.Dec.{eqb, leb}
-use lib.ListN.{length, get_or, take, drop, drop_of_length-le, length-drop}
-use lib.Seq.{take_all, drop-cons, take-suc, get_or-drop, drop-drop, length-take-le}
+use lib.Dec.{eqb, leb, ltb}
+use lib.ListN.{length, get_or, take, drop, drop_of_length-le, length-append, length-drop}
+use lib.Seq.{take-append_seam, drop-append_seam, take_all, drop-cons, take-suc, drop-drop, length-take-le}
 use denote.Enum.Bare.{sameb}
-use borrow.Author.Tests.{ne_eqb, lt-leb}
+use borrow.Author.Tests.{lt-leb, ltb-false}
+use Rattle.std.specs.Prelude.{Option, Some, None}
+use Rattle.std.specs.Option.{unwrap_or}
+use Rattle.std.specs.List.{position_or_len}
 use Rattle.model.specs.Lists.{every}
 use Rattle.model.specs.Bytes.{Class, white, letter, digit, hyphen, less, greater, slash, other, forbidden, class_number, is, class_of}
 use Rattle.model.specs.Bytes.{letter_byte, name_byte, is_name, same_bytes, within}
 use Rattle.model.specs.Text.{name_at, trimmed, text_at}
 use Rattle.model.specs.Written.{text_byte}
-use Rattle.model.proofs.Tests.{Yes, never, and_yes, yes_not, or_left, same, eqb_no}
+use Rattle.model.proofs.Tests.{Yes, never, and_yes, yes_not, or_left, same}
 use Rattle.model.proofs.ByteLaws.{name-cons}
 use Rattle.model.proofs.NameLaws.{bytes_same}
 use Rattle.model.proofs.ListLaws.{every-cons}
-use Rattle.chars.specs.Classes.{meaning, name_class}
+use Rattle.chars.specs.Classes.{meaning, number, name_class}
 use Rattle.chars.proofs.ClassLaws.{number_is, same_number, not_no}
 use Rattle.chars.specs.declared.Class as declared
 use Rattle.chars.specs.declared.Class.TheVariants.{White}
 use Rattle.chars.specs.contracts.Class.{the_type}
-use Rattle.read_runs.specs.Runs.{run, class_within, first_class, trim}
+use Rattle.read_runs.specs.Runs.{Tests, run, class_within, first_class, trim}
 
 -- ---- the bytes from an offset on
 
 pub here : (s : List ℕ) (i : ℕ) → i < length s → drop i s ≡ get_or s i 0 ∷ drop (i + 1) s
 here s i h = rw (add-one, drop-cons s i 0)
+
+-- all bytes from an offset on are those behind it
+pub rest_is : (s : List ℕ) (i : ℕ) → take (length s - i) (drop i s) ≡ drop i s
+rest_is s i = take_all (length s - i) (drop i s) (omega (arith, length-drop i s))
 
 -- a byte is there where its class is
 pub byte_there : (s : List ℕ) (i : ℕ) → first_class (drop i s) < 9 → i < length s
@@ -48,6 +54,14 @@ class_there s i h = rw (here s i h)
 pub class_end : (s : List ℕ) (i : ℕ) → length s ≤ i → first_class (drop i s) ≡ 9
 unfolding first_class
 class_end s i h = rw (drop_of_length-le s h)
+
+-- the number of a byte's class in code, and of the end, is that which is seen
+pub byte_seen : (s : List ℕ) (i : ℕ) (c : declared.Class) {b : ℕ} → i < length s → b ≡ get_or s i 0 → meaning c ≡ class_of b
+    → number c ≡ first_class (drop i s)
+byte_seen s i c h e m = number_is _ ∙ ap class_number (m ∙ ap class_of e) ∙ sym (class_there s i h)
+
+pub end_seen : (s : List ℕ) (i : ℕ) → length s ≤ i → 9 ≡ first_class (drop i s)
+end_seen s i h = sym (class_end s i h)
 
 -- ---- runs
 
@@ -77,30 +91,76 @@ all_pass test zero s h e = omega arith
 all_pass test (suc m) [] h e = absurd (omega arith)
 all_pass test (suc m) (b ∷ s) h e = let (u, v) = every-cons test b (take m s) e in rw u (omega (arith, all_pass test m s (omega arith) v))
 
--- a run from offset i on that ends at offset x: past a byte that passes the test, at one that doesn't, at the end
-module _ (test : ℕ → Bool) (s : List ℕ) (i : ℕ) {x : ℕ} (ends : i + run test (drop i s) ≡ x) where
-  pub run_passes : i < length s → Yes (test (get_or s i 0)) → i + 1 + run test (drop (i + 1) s) ≡ x
-  run_passes h e = omega (arith, run_on test s i h e)
+-- a run ends at the first byte that fails the test, or with the bytes
+run_position : (test : ℕ → Bool) (s : List ℕ) → position_or_len (λ b. not (test b)) s ≡ run test s
+unfolding run
+run_position test [] = refl
+run_position test (b ∷ s) = by (test b) (run_position test s)
+  where
+    by : (t : Bool) → position_or_len (λ b. not (test b)) s ≡ run test s
+        → cond (not (not t)) (1 + position_or_len (λ b. not (test b)) s) 0 ≡ cond t (suc (run test s)) 0
+    by true e = omega arith
+    by false e = refl
 
-  pub run_stops : i < length s → test (get_or s i 0) ≡ false → i ≡ x
+place_or : (n m : ℕ) → n ≤ m → unwrap_or (cond (ltb n m) (Some n) None) m ≡ n
+place_or n m h = by (ltb n m) refl
+  where
+    by : (t : Bool) → ltb n m ≡ t → unwrap_or (cond t (Some n) None) m ≡ n
+    by true e = refl
+    by false e = omega (arith, ltb-false n m e)
+
+pub run_found : (test : ℕ → Bool) (s : List ℕ) {found : Option ℕ}
+    → found ≡ cond (ltb (position_or_len (λ b. not (test b)) s) (length s)) (Some (position_or_len (λ b. not (test b)) s)) None
+    → unwrap_or found (length s) ≡ run test s
+run_found test s e =
+    rw e (place_or _ (length s) (omega (arith, run_position test s, run-most test s)) ∙ run_position test s)
+
+-- what a closure gives for the class of a byte, reversed
+pub fails_by : {gives : declared.Class → Bool → Type 0} {test : ℕ → Bool} → Tests gives test → {c : declared.Class} (b : ℕ) {r v : Bool}
+    → v ≡ not r → gives c r → meaning c ≡ class_of b → v ≡ not (test b)
+fails_by k b e p m = e ∙ ap not (k _ _ _ m p)
+
+-- past so many bytes that all pass the test, a run from offset i on ends at the same offset x
+pub run-all : (test : ℕ → Bool) (s : List ℕ) (i : ℕ) {x : ℕ} → i + run test (drop i s) ≡ x → (m : ℕ) → i + m ≤ length s
+    → Yes (every test (take m (drop i s))) → i + m + run test (drop (i + m) s) ≡ x
+run-all test s i ends m h e = rw (← drop-drop m i s) (omega (arith, all_pass test m (drop i s) (rw length-drop (omega arith)) e))
+
+-- the run of the first n bytes: it ends before them, or goes on behind them
+module _ (test : ℕ → Bool) where
+  pub run_cut : (n : ℕ) (s : List ℕ) → run test (take n s) < n → n ≤ length s → run test s ≡ run test (take n s)
   unfolding run
-  run_stops h e = let z : run test (drop i s) ≡ 0 = rw (here s i h, e) in omega arith
-
-  pub run_ends : length s ≤ i → i ≡ x
-  unfolding run
-  run_ends h = let z : run test (drop i s) ≡ 0 = rw (drop_of_length-le s h) in omega arith
-
-  -- at the end, or before it where the run is known to end
-  pub run_done : i ≤ length s → (i < length s → i ≡ x) → i ≡ x
-  run_done within ended = by (dec_lt i (length s))
+  run_cut zero s h i = absurd (omega arith)
+  run_cut (suc n) [] h i = absurd (omega arith)
+  run_cut (suc n) (b ∷ s) h i = by (test b) h (run_cut n s)
     where
-      by : Dec (i < length s) → i ≡ x
-      by (yes h) = ended h
-      by (no h) = run_ends (omega arith)
+      by : (t : Bool) → cond t (suc (run test (take n s))) 0 < suc n
+          → (run test (take n s) < n → n ≤ length s → run test s ≡ run test (take n s))
+          → cond t (suc (run test s)) 0 ≡ cond t (suc (run test (take n s))) 0
+      by true h ih = ap (λ (m : ℕ). suc m) (ih (omega arith) (omega arith))
+      by false h ih = refl
 
-  -- past so many bytes that all pass the test
-  pub run-all : (m : ℕ) → i + m ≤ length s → Yes (every test (take m (drop i s))) → i + m + run test (drop (i + m) s) ≡ x
-  run-all m h e = rw (← drop-drop m i s) (omega (arith, all_pass test m (drop i s) (rw length-drop (omega arith)) e))
+  pub run_past : (n : ℕ) (s : List ℕ) → n ≤ run test (take n s) → n + run test (drop n s) ≡ run test s
+  unfolding run
+  run_past zero s h = omega arith
+  run_past (suc n) [] h = absurd (omega arith)
+  run_past (suc n) (b ∷ s) h = by (test b) h (run_past n s)
+    where
+      by : (t : Bool) → suc n ≤ cond t (suc (run test (take n s))) 0 → (n ≤ run test (take n s) → n + run test (drop n s) ≡ run test s)
+          → suc n + run test (drop n s) ≡ cond t (suc (run test s)) 0
+      by true h ih = omega (arith, ih (omega arith))
+      by false h ih = absurd (omega arith)
+
+-- a block of m bytes behind the first bytes, so many as are known, and what is left behind the block
+module _ (s block after : List ℕ) (known m : ℕ) (within : known ≤ length s) (cut : drop known s ≡ block ++ after)
+    (size : length block ≡ m) where
+  pub block_there : known + m ≤ length s
+  block_there = omega (arith, length-drop known s, ap (λ (l : List ℕ). length l) cut, length-append block after)
+
+  pub block_is : take m (drop known s) ≡ block
+  block_is = rw (cut, ← size) (take-append_seam block after)
+
+  pub block_left : after ≡ drop (known + m) s
+  block_left = sym (rw (← drop-drop m known s, cut, ← size) (drop-append_seam block after))
 
 -- no white where the first byte's class is another
 pub no_white_run : (s : List ℕ) (i : ℕ) → first_class (drop i s) ≢ 0 → run (class_within 0 0) (drop i s) ≡ 0
@@ -116,12 +176,20 @@ unfolding every
 every_append test [] x = and-true (test x)
 every_append test (y ∷ xs) x = rw (every_append test xs x, and_assoc)
 
-pub every-last : (test : ℕ → Bool) (s : List ℕ) (i : ℕ) → i < length s → every test (take (i + 1) s) ≡
-    (every test (take i s) && test (get_or s i 0))
-every-last test s i h = rw (add-one, take-suc s i 0 h) (every_append test (take i s) (get_or s i 0))
+-- a flag that says whether all bytes so far pass a test
+pub none-fails : (test : ℕ → Bool) → true ≡ every test []
+unfolding every
+none-fails test = refl
 
-pub every-whole : (test : ℕ → Bool) (s : List ℕ) (i : ℕ) → length s ≤ i → every test (take i s) ≡ every test s
-every-whole test s i h = rw (take_all i s h)
+module _ (test : ℕ → Bool) (s : List ℕ) where
+  module _ (i : ℕ) {all : Bool} (told : all ≡ every test (take i s)) where
+    pub next-told : i < length s → {next : Bool} → next ≡ test (get_or s i 0) → (all && next) ≡ every test (take (i + 1) s)
+    next-told h e = rw (told, e, add-one, take-suc s i 0 h) (sym (every_append test (take i s) (get_or s i 0)))
+
+    pub all-told : length s ≤ i → all ≡ every test s
+    all-told h = told ∙ rw (take_all i s h)
+
+pub ruleset block_laws = (none-fails, next-told, all-told)
 
 -- what the byte behind a run is not
 pub run_left : (test : ℕ → Bool) (P : ℕ → Type 0) → ((b : ℕ) → test b ≡ false → P (class_number (class_of b))) → P 9
@@ -164,13 +232,6 @@ white_number forbidden = refl
 pub white_by : (c : declared.Class) (b : ℕ) → meaning c ≡ class_of b → sameb the_type c White ≡ class_within 0 0 b
 unfolding class_within
 white_by c b e = same_number c White ∙ rw (number_is c, e) (white_number (class_of b))
-
--- a byte that is white, and one that isn't
-pub blank_by : (c : declared.Class) (b : ℕ) → meaning c ≡ class_of b → not (sameb the_type c White) ≡ false → class_number (class_of b) ≡ 0
-blank_by c b m e = ap class_number (sym m) ∙ sym (number_is c) ∙ same _ _ (sym (same_number c White) ∙ not_no _ e)
-
-pub solid_by : (c : declared.Class) (b : ℕ) → meaning c ≡ class_of b → not (sameb the_type c White) ≡ true → class_number (class_of b) ≢ 0
-solid_by c b m e = λ z. eqb_no (sym (same_number c White) ∙ yes_not _ e) (number_is c ∙ ap class_number m ∙ z)
 
 pub name_by : (c : declared.Class) (b : ℕ) → meaning c ≡ class_of b → name_class (meaning c) ≡ class_within 1 3 b
 unfolding class_within name_class
@@ -234,28 +295,25 @@ name-first (b ∷ s) h = by (name_byte b) h
 pub name-length : (s : List ℕ) → length (name_at s) ≡ run (class_within 1 3) s
 name-length s = rw (name-run s) (length-take-le _ s (run-most (class_within 1 3) s))
 
--- a name compared with the one that begins at an offset: too few bytes are left, the bytes differ, or the byte behind them decides
-module _ (text : List ℕ) (at : ℕ) (name : List ℕ) where
-  pub named-short : length text - at < length name → same_bytes name (name_at (drop at text)) ≡ false
-  named-short h = by (same_bytes name (name_at (drop at text))) refl
+-- a name compared with the one at the front of some bytes: there are too few, they differ, or the byte behind them decides
+module _ (s name : List ℕ) where
+  pub named-short : length s < length name → same_bytes name (name_at s) ≡ false
+  named-short h = by (same_bytes name (name_at s)) refl
     where
-      by : (t : Bool) → same_bytes name (name_at (drop at text)) ≡ t → t ≡ false
+      by : (t : Bool) → same_bytes name (name_at s) ≡ t → t ≡ false
       by true e =
-          let n : length name ≡ length (name_at (drop at text)) = ap (λ (l : List ℕ). length l) (bytes_same _ _ e) in
-          absurd (omega (arith, name-length (drop at text), run-most (class_within 1 3) (drop at text), length-drop at text))
+          let n : length name ≡ length (name_at s) = ap (λ (l : List ℕ). length l) (bytes_same _ _ e) in
+          absurd (omega (arith, name-length s, run-most (class_within 1 3) s))
       by false e = refl
 
-  module _ (well : Yes (is_name name)) {flag : Bool} (compared : flag ≡ same_bytes name (take (at + length name - at) (drop at text))) where
-    named_here : same_bytes name (name_at (drop at text)) ≡ (flag && not (within 1 3 (first_class (drop (at + length name) text))))
-    named_here =
-        let n : at + length name - at ≡ length name = omega arith in
-        rw (compared, n, ← drop-drop (length name) at text) (named_by name (drop at text) (name-bytes name well))
+  module _ (well : Yes (is_name name)) {flag : Bool} (compared : flag ≡ same_bytes name (take (length name) s)) where
+    named_here : same_bytes name (name_at s) ≡ (flag && not (within 1 3 (first_class (drop (length name) s))))
+    named_here = rw compared (named_by name s (name-bytes name well))
 
-    pub named_else : flag ≡ false → same_bytes name (name_at (drop at text)) ≡ false
+    pub named_else : flag ≡ false → same_bytes name (name_at s) ≡ false
     named_else e = rw e at named_here
 
-    pub named_so : flag ≡ true → (k : ℕ) → k ≡ first_class (drop (at + length name) text) → same_bytes name (name_at (drop at text)) ≡ not
-        (leb 1 k && leb k 3)
+    pub named_so : flag ≡ true → (k : ℕ) → k ≡ first_class (drop (length name) s) → same_bytes name (name_at s) ≡ not (leb 1 k && leb k 3)
     named_so e k told = rw told (rw e at named_here)
 
 -- ---- texts
@@ -289,11 +347,6 @@ text_run (b ∷ s) e = by (text_byte b) refl e (text_run s)
     by true h e ih = rw (text_no_less (class_of b) h) (ap (trimmed b) (ih e))
     by false h e ih = rw (less_ends (class_of b) e)
 
-trim_white : (xs : List ℕ) (b : ℕ) → Yes (is (class_of b) white) → trim (xs ++ (b ∷ [])) ≡ trim xs
-unfolding trim trimmed
-trim_white [] b h = rw h
-trim_white (x ∷ xs) b h = ap (trimmed x) (trim_white xs b h)
-
 trim_solid : (xs : List ℕ) (b : ℕ) → is (class_of b) white ≡ false → trim (xs ++ (b ∷ [])) ≡ xs ++ (b ∷ [])
 unfolding trim trimmed
 trim_solid [] b h = rw h
@@ -303,25 +356,33 @@ trim_solid (x ∷ xs) b h = ap (trimmed x) (trim_solid xs b h) ∙ more xs
     more [] = refl
     more (y ∷ ys) = refl
 
--- the last byte of a part of the text
-module _ (text : List ℕ) (at end : ℕ) (some : at < end) (within : end ≤ length text) where
-  last_byte : take (end - at) (drop at text) ≡ take (end - 1 - at) (drop at text) ++ (get_or text (end - 1) 0 ∷ [])
-  last_byte =
-      let k : end - at ≡ suc (end - 1 - at) = omega arith in
-      let i : at + (end - 1 - at) ≡ end - 1 = omega arith in
-      rw k (take-suc (drop at text) (end - 1 - at) 0 (rw length-drop (omega arith)) ∙ rw (get_or-drop, i))
+-- the bytes up to one that isn't white
+pub trim_stops : (s : List ℕ) (i : ℕ) → i < length s → not (is (class_of (get_or s i 0)) white) ≡ true
+    → trim (take (i + 1) s) ≡ take (i + 1) s
+trim_stops s i there e = rw (add-one, take-suc s i 0 there) (trim_solid (take i s) (get_or s i 0) (yes_not _ e))
 
-  pub trim_back : class_number (class_of (get_or text (end - 1) 0)) ≡ 0 → trim (take (end - at) (drop at text)) ≡ trim
-      (take (end - 1 - at) (drop at text))
-  unfolding is class_number
-  trim_back e = rw last_byte (trim_white (take (end - 1 - at) (drop at text)) (get_or text (end - 1) 0) (rw e))
+-- bytes that are white from place n on
+pub trim_back : (s : List ℕ) (n : ℕ) → n ≤ length s → ((k : ℕ) → n ≤ k → k < length s → not (is (class_of (get_or s k 0)) white) ≡ false)
+    → trim (take n s) ≡ trim s
+unfolding trim trimmed
+trim_back [] zero h blank = refl
+trim_back [] (suc n) h blank = absurd (omega arith)
+trim_back (b ∷ s) zero h blank =
+    let b_white = not_no _ (blank 0 (omega arith) (omega arith)) in
+    rw (← trim_back s zero (omega arith) (λ k l m. blank (suc k) (omega arith) (omega arith)), b_white)
+trim_back (b ∷ s) (suc n) h blank =
+    ap (trimmed b) (trim_back s n (omega arith) (λ k l m. blank (suc k) (omega arith) (omega arith)))
 
-  pub trim_stops : class_number (class_of (get_or text (end - 1) 0)) ≢ 0 → trim (take (end - at) (drop at text)) ≡ take (end - at)
-      (drop at text)
-  unfolding is class_number
-  trim_stops e = rw last_byte (trim_solid (take (end - 1 - at) (drop at text)) (get_or text (end - 1) 0) (rw (ne_eqb _ _ e)))
-
--- nothing is trimmed to nothing
-pub trim_none : (text : List ℕ) (at end : ℕ) → end ≤ at → take (end - at) (drop at text) ≡ trim (take (end - at) (drop at text))
-unfolding trim
-trim_none text at end h = let e : end - at ≡ 0 = omega arith in rw e
+-- trimmed bytes are no more
+pub trim-most : (s : List ℕ) → length (trim s) ≤ length s
+unfolding trim trimmed
+trim-most [] = omega arith
+trim-most (b ∷ s) = by (trim s) (trim-most s)
+  where
+    by : (t : List ℕ) → length t ≤ length s → length (trimmed b t) ≤ suc (length s)
+    by [] h = one (is (class_of b) white)
+      where
+        one : (w : Bool) → length (cond w [] (b ∷ [])) ≤ suc (length s)
+        one true = omega arith
+        one false = omega arith
+    by (c ∷ t) h = omega arith

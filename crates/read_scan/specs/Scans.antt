@@ -8,6 +8,10 @@ use Rattle.read_scan.specs.declared.Scan.{Scan}
 abbrev pub at_offset : Scan → ℕ → Scan
 at_offset s at = record { at = at; top = s.top; depth = s.depth; nodes = s.nodes }
 
+-- the scan of a text up to an offset, with no node
+abbrev pub scan_at : ℕ → Scan
+scan_at at = record { at = at; top = 0; depth = 0; nodes = 0 }
+
 -- the number of the refusal for a class's number, or the end's, and that refusal
 abbrev pub stop_number : ℕ → ℕ
 stop_number class = cond (eqb class 8) 2 3

@@ -3,7 +3,7 @@
 
 ghost use Rattle.std.specs.Prelude.{◌≡◌};
 ghost use Rattle.chars.specs.Classes.{number_seen};
-ghost use Rattle.read_scan.specs.Scans.{at_offset, stop_by};
+ghost use Rattle.read_scan.specs.Scans.{stop_by};
 
 use chars::Class;
 use model::Refusal;
@@ -18,21 +18,22 @@ pub struct Scan {
     pub nodes: usize,
 }
 
-impl Scan {
-    // The scan at another offset.
-    pub fn moved(self, at: usize) -> Scan
-        ensures { result ≡ at_offset self at }
-    {
-        Scan { at, ..self }
-    }
+// An offset of a text, and the class of the byte there; none at the end.
+#[derive(Clone, Copy)]
+pub struct Seen {
+    pub at: usize,
+    pub class: Option<Class>,
 }
 
-// The refusal at a byte, by its class, or at the end, where a form can't go on.
-pub fn stopped(class: Option<Class>, at: usize) -> Refusal
-    ensures { result ≡ stop_by (number_seen class) at }
-{
-    if class == Some(Class::Forbidden) {
-        return Refusal::ForbiddenByte(at);
+impl Seen {
+    // The refusal at the byte, by its class, or at the end, where a form can't go on.
+    pub fn stopped(self) -> Refusal
+        ensures { result ≡ stop_by (number_seen self.class) self.at }
+    {
+        // kept: one class has a refusal of its own, and all others have one; no step is run
+        if self.class == Some(Class::Forbidden) {
+            return Refusal::ForbiddenByte(self.at);
+        }
+        Refusal::Syntax(self.at)
     }
-    Refusal::Syntax(at)
 }

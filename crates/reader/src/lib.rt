@@ -18,6 +18,7 @@ use read_nodes::unpack;
 
 // The number of nodes, whose words go to the front of the tree; or the first of the refusals 8, 1, 2 to 7 and 22, which leaves the
 // tree as it was.
+// kept: C lends list, text and tree one by one
 pub fn read(list: &[u8], text: &[u8], tree: &mut [u32]) -> Result<usize, Refusal>
     ensures answer { said result ≡ read_said list.now text.now tree.old }
     ensures buffer { tree.new ≡ read_tree list.now text.now tree.old }
@@ -27,6 +28,7 @@ pub fn read(list: &[u8], text: &[u8], tree: &mut [u32]) -> Result<usize, Refusal
 }
 
 // The same, by a list that passes its check.
+// kept: the three slices of the call; a struct of them would be made for this one call
 fn read_by(list: &[u8], text: &[u8], tree: &mut [u32]) -> Result<usize, Refusal>
     requires { names_of list.now ≡ passes (line_count list.now) }
     ensures answer { said result ≡ read_said list.now text.now tree.old }
@@ -40,6 +42,6 @@ fn read_by(list: &[u8], text: &[u8], tree: &mut [u32]) -> Result<usize, Refusal>
     if tree.len() < NODE_WORDS * nodes {
         return Err(Refusal::ShortBuffer(NODE_WORDS * nodes));
     }
-    unpack(&words, nodes, tree);
+    unpack(&words[..nodes], tree);
     Ok(nodes)
 }

@@ -10,7 +10,10 @@ pub returns-then-is_empty : goal.returns-then-is_empty
 returns-then-is_empty c = said_none _ (same _ _ (sym c.is_empty.ensures ∙ c.if-is_empty.true))
 
 pub loop-good-init : goal.loop-good-init
-loop-good-init c = (check-first _ (eqb_no (sym c.is_empty.ensures ∙ c.if-is_empty.false)), table_begun _ _ c.index-count.ensures.table c.new-table.ensures)
+loop-good-init c = (
+  check-first _ (eqb_no (sym c.is_empty.ensures ∙ c.if-is_empty.false)),
+  table_begun _ _ c.index-count.ensures.table c.new-table.ensures,
+)
 
 pub enter-requires : goal.enter-requires
 enter-requires c = (omega arith, c.loop-good.invariant.1)

@@ -5,10 +5,20 @@ use Rattle.offsets.proofs.IndexLaws.{indexed_cut}
 use Rattle.names.proofs.Checks.{told_unnamed, told_repeated, told_entered}
 use Rattle.names.proofs.enter.Goals as goal
 
-pub named_line-requires : goal.named_line-requires
-named_line-requires c =
+pub slice_bounds-named_line-count : goal.slice_bounds-named_line-count
+slice_bounds-named_line-count c =
     let cut = indexed_cut _ _ c.requires.1.index _ c.requires.0 in
-    (omega (arith, cut.after), cut.within)
+    omega (arith, cut.after, cut.within)
+
+pub slice_bounds-named_line-start : goal.slice_bounds-named_line-start
+slice_bounds-named_line-start c =
+    let cut = indexed_cut _ _ c.requires.1.index _ c.requires.0 in
+    omega (arith, cut.after, cut.within)
+
+pub slice_bounds-named_line-end : goal.slice_bounds-named_line-end
+slice_bounds-named_line-end c =
+    let cut = indexed_cut _ _ c.requires.1.index _ c.requires.0 in
+    omega (arith, cut.after, cut.within)
 
 pub returns-then-not-named_line : goal.returns-then-not-named_line
 returns-then-not-named_line c =

@@ -3,4 +3,4 @@ use Rattle.read_nodes.proofs.PackLaws.{Unpacked}
 use Rattle.read_nodes.proofs.unpack.Given as goal
 
 abbrev pub invariant-loop-k : goal.invariant-loop-k
-invariant-loop-k l = Unpacked l.words l.initial.tree l.k l.tree
+invariant-loop-k l = Unpacked l.nodes l.initial.tree l.k l.tree

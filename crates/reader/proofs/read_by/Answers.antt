@@ -1,5 +1,8 @@
 -- `reader::read_by` meets its contract.
+use mathlib.Core.Path.{◌≡◌}
 use native.Mathlib.Omega.{arith}
+use lib.ListN.{length, take}
+use lib.Seq.{length-take-le}
 use Rattle.std.proofs.lemmas.Result.{err_from_is_err_and}
 use Rattle.reader.proofs.Answers.{long_text, refused-form, short-buffer, filled}
 use Rattle.reader.proofs.read_by.Goals as goal
@@ -24,7 +27,7 @@ returns-then-tree-nodes c =
 pub unpack-requires : goal.unpack-requires
 unpack-requires c =
     let w = c.in_ok-nodes.ensures in
-    (w.room, w.few, omega arith)
+    omega (arith, length-take-le c.in_ok-nodes.nodes c.scan_form.new.words (omega (arith, w.few, w.room)))
 
 pub returns-in_err-nodes : goal.returns-in_err-nodes
 returns-in_err-nodes c =
@@ -34,5 +37,8 @@ returns-in_err-nodes c =
 
 pub returns : goal.returns
 returns c =
-    let both = filled _ _ _ c.requires c.in_ok-nodes.ensures c.if-tree-nodes.false c.unpack.ensures in
+    let w = c.in_ok-nodes.ensures in
+    let n = c.in_ok-nodes.nodes in
+    let count : length (take n c.scan_form.new.words) ≡ n = length-take-le _ _ (omega (arith, w.few, w.room)) in
+    let both = filled _ _ _ c.requires w c.if-tree-nodes.false (rw count at c.unpack.ensures) in
     record { answer = both.0; buffer = both.1 }
