@@ -8,24 +8,24 @@ ghost use Rattle.tree.specs.Shape.{shape_at};
 
 use layout::{MOST_LEVELS, MOST_NODES, NODE_WORDS};
 use model::Refusal;
-use tree_look::{Seen, is_root, look};
+use tree_look::{Seen, TreeWords};
 
 // Checks the nodes from `first` up to `end`, side by side under one parent; calls itself for what is inside a child element, with one
 // level less.
-fn children(tree: &[u32], tags: u32, levels: u32, first: usize, end: usize) -> Result<(), Refusal>
-    requires { 4 * end ≤ length tree.now }
-    ensures { result ≡ shape_at tree.now tags levels first end false }
+fn children(tree: &TreeWords, levels: u32, first: usize, end: usize) -> Result<(), Refusal>
+    requires { 4 * end ≤ length tree.now.words.now }
+    ensures { result ≡ shape_at tree.now.words.now tree.now.tags levels first end false }
 {
     let mut i = first;
     let mut after_text = false;
-    while let Some(seen) = look(tree, tags, levels, i, end, after_text)? {
+    while let Some(seen) = tree.look(levels, i, end, after_text)? {
         match seen {
             Seen::Text => {
                 i += 1;
                 after_text = true;
             }
             Seen::Element(next) => {
-                children(tree, tags, levels - 1, i + 1, next)?;
+                children(tree, levels - 1, i + 1, next)?;
                 i = next;
                 after_text = false;
             }
@@ -43,9 +43,10 @@ pub fn check(tree: &[u32], tags: u32) -> Result<usize, Refusal>
     if !counted {
         return Err(Refusal::Tree(n));
     }
-    if !is_root(tree, tags, n) {
+    let words = TreeWords { words: tree, tags };
+    if !words.is_root(n) {
         return Err(Refusal::Tree(0));
     }
-    children(tree, tags, MOST_LEVELS - 1, 1, n)?;
+    children(&words, MOST_LEVELS - 1, 1, n)?;
     Ok(n)
 }

@@ -1,4 +1,4 @@
--- What `tree_look::look` answers, in the model's terms.
+-- What `TreeWords::look` answers, in the model's terms.
 use Rattle.std.specs.Prelude.{ℕ, Option, Some, None, Result, Ok, Err}
 use Rattle.model.specs.Tree.{at_end, a_text, an_element, breaks}
 use Rattle.model.specs.Tree as model

@@ -1,7 +1,7 @@
 // The bytes of a form, put into a buffer one after another.
 #![tactic(auto)]
 
-ghost use Rattle.std.specs.Prelude.{◌≡◌, ◌+◌, ◌≤◌, length};
+ghost use Rattle.std.specs.Prelude.{◌≡◌, ◌++◌, ◌+◌, ◌≤◌, length};
 ghost use Rattle.model.specs.Written.{source_bytes};
 ghost use Rattle.write_nodes.specs.Nodes.{span_of};
 ghost use Rattle.write_bytes.specs.Put.{empty_tag, start_tag, end_tag, Room, Writes};
@@ -25,6 +25,7 @@ impl<'a> Form<'a> {
         Form { out, at: 0 }
     }
 
+    // kept: std's Write for &mut [u8] tells how much room is left and nothing of the bytes before it, so that no proof could go on
     fn put(&mut self, bytes: &[u8])
         requires { Room self.old bytes.now }
         ensures { Writes self.old bytes.now self.new }
@@ -34,31 +35,36 @@ impl<'a> Form<'a> {
         self.at = end;
     }
 
+    // Puts a name between two marks.
+    fn put_between(&mut self, before: &[u8], name: &[u8], after: &[u8])
+        requires { Room self.old (before.now ++ (name.now ++ after.now)) }
+        ensures { Writes self.old (before.now ++ (name.now ++ after.now)) self.new }
+    {
+        self.put(before);
+        self.put(name);
+        self.put(after);
+    }
+
+    // kept: the three differ in the marks alone, which put_between takes; each promises the bytes of its own kind of tag
     pub fn put_empty_tag(&mut self, name: &[u8])
         requires { Room self.old (empty_tag name.now) }
         ensures { Writes self.old (empty_tag name.now) self.new }
     {
-        self.put(b"<");
-        self.put(name);
-        self.put(b"/>");
+        self.put_between(b"<", name, b"/>");
     }
 
     pub fn put_start_tag(&mut self, name: &[u8])
         requires { Room self.old (start_tag name.now) }
         ensures { Writes self.old (start_tag name.now) self.new }
     {
-        self.put(b"<");
-        self.put(name);
-        self.put(b">");
+        self.put_between(b"<", name, b">");
     }
 
     pub fn put_end_tag(&mut self, name: &[u8])
         requires { Room self.old (end_tag name.now) }
         ensures { Writes self.old (end_tag name.now) self.new }
     {
-        self.put(b"</");
-        self.put(name);
-        self.put(b">");
+        self.put_between(b"</", name, b">");
     }
 
     // The bytes of the text that a node says.

@@ -1,30 +1,38 @@
--- The document that stands in the words of a tree, and its form put into a buffer.
-use Rattle.std.specs.Prelude.{◌≡◌, Bool, true, List, ℕ, ◌*◌, ◌≤◌, length}
-use Rattle.model.specs.Answers.{passes}
-use Rattle.model.specs.Lists.{every}
-use Rattle.model.specs.Names.{names_of}
-use Rattle.model.specs.Tree.{Document, nodesD, children}
-use Rattle.model.specs.Written.{writtenD, good_words}
+-- The form of the document that stands in the words of a tree, put into a buffer.
+use Rattle.std.specs.Prelude.{◌≡◌, List, ℕ, ◌+◌, ◌≤◌, ◌<◌, Option}
+use Rattle.std.specs.Option.{MatchOption}
+use Rattle.model.specs.Tree.{Document, size_at}
+use Rattle.model.specs.Written.{writtenD}
 use Rattle.write_bytes.specs.Put.{Room, Writes}
 use Rattle.write_bytes.specs.declared.Form.{Form}
+use Rattle.write_form.specs.Stands.{Stands}
 use Rattle.write_form.specs.declared.Siblings.{Siblings}
 
--- Document d stands from node i up to node `end`, where `levels` elements may lie one in another, over a checked name list
--- with its index; 11 refuses none of its nodes.
-pub record Stands (list text tree : List ℕ) (levels i end : ℕ) (d : Document) : Type 0 where
-  pub tags : ℕ
-  pub after_text : Bool
-  pub names : names_of list ≡ passes tags
-  pub within : 4 * end ≤ length tree
-  pub read : children tree tags (length tree) levels i end after_text ≡ passes d
-  pub good : every (good_words text) (nodesD d) ≡ true
-
--- such a document is that of siblings, and there is room for it in a form
-pub record Ready (list text tree : List ℕ) (s : Siblings) (p : Form) : Type 0 where
+-- a document stands from node i up to node `end`, and there is room for it in a form
+pub record ReadyAt (list text tree : List ℕ) (levels i end : ℕ) (p : Form) : Type 0 where
   pub document : Document
-  pub stands : Stands list text tree s.levels s.first s.end document
+  pub stands : Stands list text tree levels i end document
   pub room : Room p (writtenD list text document)
 
--- the document of siblings, whichever it is, leads from one form to another
-abbrev pub Puts : (list text tree : List ℕ) (p : Form) (s : Siblings) (q : Form) → Type 0
-Puts list text tree p s q = (d : Document) → Stands list text tree s.levels s.first s.end d → Writes p (writtenD list text d) q
+-- the document that stands there, whichever it is, leads from one form to another
+abbrev pub PutsAt : (list text tree : List ℕ) (levels i end : ℕ) (p q : Form) → Type 0
+PutsAt list text tree levels i end p q = (d : Document) → Stands list text tree levels i end d → Writes p (writtenD list text d) q
+
+-- ---- the document of siblings
+
+abbrev pub Ready : Siblings → Form → Type 0
+Ready s p = let f = s.sources.now in ReadyAt f.list.now f.text.now f.tree.now s.levels s.first s.end p
+
+abbrev pub Puts : Siblings → (p q : Form) → Type 0
+Puts s p q = let f = s.sources.now in PutsAt f.list.now f.text.now f.tree.now s.levels s.first s.end p q
+
+-- the first of the siblings, if there is one, and those after it
+pub record NodeNext (s : Siblings) (i : ℕ) (t : Siblings) : Type 0 where
+  pub is : i ≡ s.first
+  pub within : i < s.end
+  pub sources : t.sources ≡ s.sources
+  pub end : t.end ≡ s.end
+  pub first : t.first ≡ i + size_at s.sources.now.tree.now i
+
+abbrev pub NextNode : Siblings → Option ℕ → Siblings → Type 0
+NextNode s r t = MatchOption r (s.end ≤ s.first) (λ i. NodeNext s i t)

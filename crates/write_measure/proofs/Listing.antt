@@ -56,7 +56,7 @@ module _ (list source tree : List ℕ) where
     text_listed : {levels i end k : ℕ} {w : Span} {d : Document} → 4 * end ≤ length tree → First tree tags levels i end
         (text k w · d) → Read d → Listed i (text k w ∷ nodesD d)
     unfolding own own_bytes own_by good_words
-    text_listed {levels} {i} {end} b (a_text lt s read) rest = (
+    text_listed {levels} {i} {end} b (a_text lt s _ read) rest = (
       record { adds = rw s; named = λ a h. absurd (text≢tag (sym s ∙ h)) },
       rest levels (i + 1) end true b read,
     )

@@ -6,7 +6,6 @@ ghost use Rattle.model.specs.Answers.{said, answer_of};
 ghost use Rattle.write_nodes.specs.Nodes.{TagOf};
 ghost use Rattle.write_measure.specs.Lengths.{own_bytes, Small, measured, Tags};
 
-use layout::NODE_WORDS;
 use model::Refusal;
 use symbols::Symbol;
 use write_nodes::{Node, Sources};
@@ -51,8 +50,9 @@ pub fn measure(sources: &Sources) -> Result<usize, Refusal>
     ensures { said result ≡ answer_of (λ n. n)
         (measured sources.now.list.now sources.now.text.now sources.now.tree.now (length sources.now.tree.now / 4) 0 0) }
 {
-    let nodes = sources.tree.len() / NODE_WORDS;
+    let nodes = sources.nodes();
     let mut bytes = 0;
+    // kept: nodes are found by number in the words, and 11 names the number; a try_fold would hold the same sum and test in a closure
     for i in 0..nodes {
         bytes += own_bytes(sources, sources.node(i)).ok_or(Refusal::TextWords(i))?;
     }

@@ -23,7 +23,7 @@ module _ (t : List ℕ) (g : ℕ) where
   -- the document from node i up to node `end` is empty, or it begins with a text, or with an element
   pub data First (levels i end : ℕ) : Document → Type 0 where
     nothing : end ≤ i → First levels i end ε
-    a_text : {d : Document} → i < end → symbol_of (symbol_at t i) ≡ of_text (symbol_at t i - 64)
+    a_text : {d : Document} → i < end → symbol_of (symbol_at t i) ≡ of_text (symbol_at t i - 64) → size_at t i ≡ 1
         → children t g (length t) levels (i + 1) end true ≡ passes d
         → First levels i end (text (symbol_at t i - 64) (span_at t i) · d)
     an_element : {c d : Document} → symbol_of (symbol_at t i) ≡ of_tag (symbol_at t i) → symbol_at t i ≤ g → 0 < levels
@@ -38,7 +38,7 @@ module _ (t : List ℕ) (g : ℕ) where
   first-seen levels i end after_text s w (ended h) e = rw (← passes_inj e) (nothing h)
   first-seen levels i end after_text s w (text_here lt y z p) e =
       let (d, k, q) = bind_inv _ _ e in
-      rw (← passes_inj q) (a_text lt (of_text_symbol (symbol_at t i) y) k)
+      rw (← passes_inj q) (a_text lt (of_text_symbol (symbol_at t i) y) z k)
   first-seen levels i end after_text s w (element_here n is lt le x y l) e =
       let (c, k, f) = bind_inv _ _ e in
       let (d, k', q) = bind_inv _ _ f in

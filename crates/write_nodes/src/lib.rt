@@ -1,7 +1,7 @@
 // What a form is written from: the nodes of a tree by their words, the names of their tags, and the text of their texts.
 #![tactic(auto)]
 
-ghost use Rattle.std.specs.Prelude.{◌≡◌, ◌+◌, ◌*◌, ◌≤◌, length};
+ghost use Rattle.std.specs.Prelude.{◌≡◌, ◌+◌, ◌*◌, ◌/◌, ◌≤◌, length};
 ghost use Rattle.model.specs.Names.{name_of};
 ghost use Rattle.offsets.specs.Lines.{Indexed};
 ghost use Rattle.write_nodes.specs.Nodes.{node_at, Tag};
@@ -29,6 +29,13 @@ pub struct Sources<'a> {
 }
 
 impl<'a> Sources<'a> {
+    // How many nodes the tree has.
+    pub fn nodes(&self) -> usize
+        ensures { result ≡ length self.now.tree.now / 4 }
+    {
+        self.tree.len() / NODE_WORDS
+    }
+
     pub fn node(&self, i: usize) -> Node
         requires { 4 * (i + 1) ≤ length self.now.tree.now }
         ensures { result ≡ node_at self.now.tree.now i }
@@ -42,7 +49,7 @@ impl<'a> Sources<'a> {
         }
     }
 
-    // The name of a tag. A tree that passed its check has no other tags, so nothing is tested here, as `tags::name_of` does for any
+    // The name of a tag. A tree that passed its check has no other tags, so nothing is tested here, as `Table::name_of` does for any
     // number.
     pub fn name_of(&self, tag: u32) -> &'a [u8]
         requires { Tag self.now.list.now tag }

@@ -22,7 +22,7 @@ fn trimmed(s: &[u8]) -> bool
     if chars::is_white(*first) | chars::is_white(*last) {
         return false;
     }
-    // no way out of the loop, so that many bytes are tested together
+    // kept: no way out of the loop, so that many bytes are tested together; `all` stops at a bad byte, and a fold would hold this same flag
     let mut good = true;
     for byte in s {
         good = good & chars::in_text(*byte);

@@ -20,8 +20,8 @@ use Rattle.model.proofs.DocumentLaws.{GoodNodes, texts-good}
 use Rattle.write_measure.specs.Lengths.{measured}
 use Rattle.write_bytes.proofs.Stores.{put_front}
 use Rattle.write_bytes.specs.declared.Form.{Form}
-use Rattle.write_form.specs.Forms.{Ready, Puts}
-use Rattle.write_form.specs.declared.Siblings.{Siblings}
+use Rattle.write_form.specs.Stands.{Standing}
+use Rattle.write_form.specs.Forms.{ReadyAt, PutsAt}
 use Rattle.writer.specs.Passed.{Passed}
 use Rattle.writer.proofs.PassedLaws.{passed-measured, passed-stands, passed-form}
 
@@ -32,13 +32,9 @@ then-refused (passes a) b e = absurd (refuses≢passes (sym e))
 then-refused (refuses n i) b e = cc
 
 -- The checks before 11 have passed, and r is the answer of the pass over the nodes.
-pub record Measured (list source tree : List ℕ) (n : ℕ) (r : Answer) : Type 0 where
-  pub passed : Passed list source tree n
+pub record Measured (list source tree : List ℕ) (r : Answer) : Type 0 where
+  pub passed : Passed list source tree
   pub answer : said r ≡ answer_of (λ m. m) (measured list source tree (length tree / 4) 0 0)
-
--- the root alone, of n nodes with what is inside
-abbrev the_root : ℕ → Siblings
-the_root n = record { levels = 32; first = 0; end = n }
 
 module _ (list source tree out : List ℕ) where
   -- the call says r and leaves the buffer `after`
@@ -63,8 +59,8 @@ module _ (list source tree out : List ℕ) where
     unfolding write require ◌>>◌ ◌>>=◌
     says_tree {x = x} short h e = let (i, q, s) = tree_refused g tree h e in says_refusal x s (rw (names, le-leb _ _ short, q))
 
-  module _ {n : ℕ} {r : Answer} (m : Measured list source tree n r) where
-    abbrev p : Passed list source tree n
+  module _ {r : Answer} (m : Measured list source tree r) where
+    abbrev p : Passed list source tree
     p = m.passed
 
     pub says-words : {x : Refusal} → r ≡ Err x → Says (Err x) out
@@ -84,15 +80,19 @@ module _ (list source tree out : List ℕ) where
       good-nodes : GoodNodes source (nodes p.root)
       good-nodes = (texts-good source 0 (nodes p.root)).0 pass.0
 
-      -- the root is ready to be put
-      pub root_ready : {f : Form} → f.out.now ≡ out → f.at ≡ 0 → b ≤ length out → Ready list source tree (the_root n) f
+      -- the root alone is siblings
+      pub root_stands : ∥ Standing list source tree 32 0 (length tree / 4) ∥₁
+      root_stands = ∣ record { document = p.root · ε; stands = passed-stands p good-nodes } ∣₁
+
+      -- and is ready to be put
+      pub root_ready : {f : Form} → f.out.now ≡ out → f.at ≡ 0 → b ≤ length out → ReadyAt list source tree 32 0 (length tree / 4) f
       root_ready o z l = record {
         document = p.root · ε;
         stands = passed-stands p good-nodes;
         room = rw (passed-form p, o, z) (omega (arith, pass.1));
       }
 
-      pub same_buffer : {f g : Form} → Puts list source tree f (the_root n) g → g.out.ghost_name ≡ f.out.ghost_name
+      pub same_buffer : {f g : Form} → PutsAt list source tree 32 0 (length tree / 4) f g → g.out.ghost_name ≡ f.out.ghost_name
       same_buffer puts = (puts (p.root · ε) (passed-stands p good-nodes)).same
 
       pub says-long : 65535 < b → Says (Err (LongForm b)) out
@@ -109,8 +109,8 @@ module _ (list source tree out : List ℕ) where
         unfolding write require ◌>>◌ ◌>>=◌ short_enough room_for
         all_pass l = rw (p.names, le-leb _ _ p.short, p.shape, pass.0, ← pass.1, le-leb _ _ k, ← pass.1, le-leb _ _ l)
 
-        pub says-written : {f g : Form} → f.out.now ≡ out → f.at ≡ 0 → b ≤ length out → Puts list source tree f (the_root n) g
-            → Says (Ok b) g.out.now
+        pub says-written : {f g : Form} → f.out.now ≡ out → f.at ≡ 0 → b ≤ length out
+            → PutsAt list source tree 32 0 (length tree / 4) f g → Says (Ok b) g.out.now
         unfolding said write_said write_out answer_of buffer_after
         says-written o z l puts =
             let w = all_pass l in

@@ -10,11 +10,12 @@ use layout::{MOST_BYTES, MOST_LEVELS};
 use model::Refusal;
 use offsets::MOST_NAMES;
 use write_bytes::Form;
-use write_form::{Siblings, put_children};
+use write_form::Siblings;
 use write_measure::measure;
 use write_nodes::Sources;
 
 // The form of a tree over a name list, with its texts taken from a source text, goes to the front of `out`; its number of bytes.
+// kept: C lends list, text, tree and buffer one by one
 pub fn write(list: &[u8], text: &[u8], tree: &[u32], out: &mut [u8]) -> Result<usize, Refusal>
     ensures answer { said result ≡ write_said list.now text.now tree.now out.old }
     ensures buffer { out.new ≡ write_out list.now text.now tree.now out.old }
@@ -23,22 +24,7 @@ pub fn write(list: &[u8], text: &[u8], tree: &[u32], out: &mut [u8]) -> Result<u
     if MOST_BYTES < text.len() {
         return Err(Refusal::LongText);
     }
-    let nodes = tree::check(tree, tags as u32)?;
-    write_passed(list, text, tree, nodes, out)
-}
-
-// The same, once a list, a text and a tree of `nodes` nodes have passed their checks.
-fn write_passed(
-    list: &[u8],
-    text: &[u8],
-    tree: &[u32],
-    nodes: usize,
-    out: &mut [u8],
-) -> Result<usize, Refusal>
-    requires { Passed list.now text.now tree.now nodes }
-    ensures answer { said result ≡ write_said list.now text.now tree.now out.old }
-    ensures buffer { out.new ≡ write_out list.now text.now tree.now out.old }
-{
+    tree::check(tree, tags as u32)?;
     // where each name lies, found once
     let mut starts = [0; MOST_NAMES + 1];
     offsets::index(list, &mut starts);
@@ -48,7 +34,16 @@ fn write_passed(
         text,
         tree,
     };
-    let bytes = measure(&sources)?;
+    write_passed(&sources, out)
+}
+
+// The same, once list, text and tree have passed their checks.
+fn write_passed(sources: &Sources, out: &mut [u8]) -> Result<usize, Refusal>
+    requires { Passed sources.now.list.now sources.now.text.now sources.now.tree.now }
+    ensures answer { said result ≡ write_said sources.now.list.now sources.now.text.now sources.now.tree.now out.old }
+    ensures buffer { out.new ≡ write_out sources.now.list.now sources.now.text.now sources.now.tree.now out.old }
+{
+    let bytes = measure(sources)?;
     if MOST_BYTES < bytes {
         return Err(Refusal::LongForm(bytes));
     }
@@ -56,10 +51,11 @@ fn write_passed(
         return Err(Refusal::ShortBuffer(bytes));
     }
     let root = Siblings {
+        sources,
         levels: MOST_LEVELS,
         first: 0,
-        end: nodes,
+        end: sources.nodes(),
     };
-    put_children(&sources, root, &mut Form::new(out));
+    root.put_into(&mut Form::new(out));
     Ok(bytes)
 }

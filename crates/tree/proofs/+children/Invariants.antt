@@ -11,7 +11,8 @@ decreases-children l = l.levels
 
 abbrev pub invariant-loop-seen : goal.invariant-loop-seen
 invariant-loop-seen l =
-    shape_at l.tree l.tags l.levels l.first l.end false ≡ shape_at l.tree l.tags l.levels l.i l.end l.after_text
+    let t = l.tree.words.now in
+    shape_at t l.tree.tags l.levels l.first l.end false ≡ shape_at t l.tree.tags l.levels l.i l.end l.after_text
 
 abbrev pub decreases-loop-seen : goal.decreases-loop-seen
 decreases-loop-seen l = l.end - l.i

@@ -9,7 +9,7 @@ use Rattle.write_measure.proofs.NodeLaws.{own_small, measured-end, measured-next
 use Rattle.write_measure.proofs.measure.Goals as goal
 
 pub loop-i-init : goal.loop-i-init
-loop-i-init c = (search rules, rw sub-zero)
+loop-i-init c = (search rules, rw (sub-zero, c.nodes-nodes.ensures))
 
 pub own_bytes-requires : goal.own_bytes-requires
 own_bytes-requires c = search (node_tag, rules)

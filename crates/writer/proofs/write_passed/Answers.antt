@@ -7,20 +7,16 @@ use borrow.Author.Rules.{rules}
 use lib.ListN.{length}
 use Rattle.std.proofs.lemmas.Result.{err_from_is_err_and}
 use Rattle.model.specs.Answers.{Answer, said, answer_of}
-use Rattle.offsets.proofs.IndexLaws.{indexed}
 use Rattle.write_measure.specs.Lengths.{measured}
 use Rattle.writer.specs.Passed.{Passed}
 use Rattle.writer.proofs.PassedLaws.{passed-tags}
-use Rattle.writer.proofs.Outcomes.{Measured, says-words, root_ready, says-long, says-short, same_buffer, says-written}
+use Rattle.writer.proofs.Outcomes.{Measured, says-words, root_stands, root_ready, says-long, says-short, same_buffer, says-written}
 use Rattle.writer.proofs.write_passed.Goals as goal
 
 -- the nodes are measured
-pass : {list source tree : List ℕ} {n : ℕ} {r : Answer} → Passed list source tree n
-    → said r ≡ answer_of (λ m. m) (measured list source tree (length tree / 4) 0 0) → Measured list source tree n r
+pass : {list source tree : List ℕ} {r : Answer} → Passed list source tree
+    → said r ≡ answer_of (λ m. m) (measured list source tree (length tree / 4) 0 0) → Measured list source tree r
 pass p e = record { passed = p; answer = e }
-
-pub invariant_of-sources : goal.invariant_of-sources
-invariant_of-sources c = record { indexed = indexed _ _ _ (omega arith) c.index.ensures.starts }
 
 pub measure-requires : goal.measure-requires
 measure-requires c = passed-tags c.requires
@@ -44,15 +40,21 @@ returns-then-out-bytes c =
     let s = says-short _ _ _ c.args.out.now m c.in_ok-bytes.was (omega arith) (omega arith) in
     record { answer = s.0; buffer = s.1 }
 
-pub put_children-requires : goal.put_children-requires
-put_children-requires c =
+pub invariant_of-root : goal.invariant_of-root
+invariant_of-root c =
     let m = pass c.requires c.measure.ensures in
-    root_ready _ _ _ c.args.out.now m c.in_ok-bytes.was c.new.ensures.bytes c.new.ensures.at (omega arith)
+    record { standing = rw c.nodes.ensures (root_stands _ _ _ c.args.out.now m c.in_ok-bytes.was) }
+
+pub put_into-requires : goal.put_into-requires
+put_into-requires c =
+    let m = pass c.requires c.measure.ensures in
+    rw c.nodes.ensures (root_ready _ _ _ c.args.out.now m c.in_ok-bytes.was c.new.ensures.bytes c.new.ensures.at (omega arith))
 
 pub returns : goal.returns
 returns c =
     let m = pass c.requires c.measure.ensures in
+    let puts = rw c.nodes.ensures at c.put_into.ensures in
     let s = says-written _ _ _ c.args.out.now m c.in_ok-bytes.was (omega arith) c.new.ensures.bytes c.new.ensures.at (omega arith)
-    c.put_children.ensures in
-    let same = same_buffer _ _ _ c.args.out.now m c.in_ok-bytes.was c.put_children.ensures in
+    puts in
+    let same = same_buffer _ _ _ c.args.out.now m c.in_ok-bytes.was puts in
     record { answer = s.0; buffer = search (s.1, same, rules) }

@@ -1,10 +1,9 @@
--- `put_start_tag` meets its contract: the name between its brackets.
-use mathlib.Core.List.{[], ◌∷◌}
+-- `put_between` meets its contract: one run after another.
 use Rattle.write_bytes.proofs.Stores.{then, room_after, room_middle}
-use Rattle.write_bytes.proofs.Form.put_start_tag.Goals as goal
+use Rattle.write_bytes.proofs.Form.put_between.Goals as goal
 
 pub put-requires-2 : goal.put-requires-2
-put-requires-2 c = room_middle _ (62 ∷ []) c.put.ensures c.requires
+put-requires-2 c = room_middle _ _ c.put.ensures c.requires
 
 pub put-requires-3 : goal.put-requires-3
 put-requires-3 c = room_after _ c.put-2.ensures (room_after _ c.put.ensures c.requires)

@@ -1,20 +1,15 @@
--- `tree_look::look` meets its contract: each answer is the model's, by what the symbol says and the tests on the way.
+-- `look` meets its contract: each answer is the model's, by what the symbol says and the tests on the way.
 use mathlib.Core.Path.{refl, ap}
-use Prim.Native.Nat.{◌+◌, ◌*◌}
-use native.Mathlib.Omega.{arith}
 use borrow.Author.Tests.{le-leb}
 use Rattle.model.specs.Tree.{look}
 use Rattle.symbols.proofs.MeaningLaws.{means}
 use Rattle.tree_look.specs.Looked.{looked}
 use Rattle.tree_look.proofs.LookLaws.{text_looked, tag_looked, nothing_looked}
-use Rattle.tree_look.proofs.look.Goals as goal
+use Rattle.tree_look.proofs.TreeWords.look.Goals as goal
 
 pub returns-then-end-i : goal.returns-then-end-i
 unfolding look
 returns-then-end-i c = rw (le-leb _ _ c.if-end-i.true)
-
-pub overflow_add-next : goal.overflow_add-next
-overflow_add-next c = omega (arith, c.type_inv.tree (4 * c.args.i + 1))
 
 pub returns-in-Text : goal.returns-in-Text
 returns-in-Text c =

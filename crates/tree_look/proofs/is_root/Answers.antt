@@ -1,5 +1,0 @@
--- `tree_look::is_root` meets its contract.
-use Rattle.tree_look.proofs.is_root.Goals as goal
-
-pub returns : goal.returns
-returns c = rw c.is_tag.ensures
