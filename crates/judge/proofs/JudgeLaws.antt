@@ -8,7 +8,8 @@ use lib.Seq.{length-take-le, drop_at}
 use borrow.Author.Tests.{le-leb, lt-leb}
 use Rattle.std.specs.Prelude.{Ok, Err}
 use Rattle.model.specs.declared.Refusal.{Refusal}
-use Rattle.model.specs.Answers.{Said, Answer, refusal, said_refusal, said, passes, refuses, ◌>>=◌, ◌>>◌, require, room_for, buffer_after, looks_in}
+use Rattle.model.specs.Answers.{Said, Answer, refusal, said_refusal, said, passes, refuses, looks_in}
+use Rattle.model.specs.Answers.{◌>>=◌, ◌>>◌, require, room_for, buffer_after}
 use Rattle.model.specs.Tree.{Element, size, tree_of}
 use Rattle.model.specs.Sheet.{Sheet, sheet_of}
 use Rattle.model.specs.Run.{items, run, verdict}

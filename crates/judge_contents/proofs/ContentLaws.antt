@@ -1,162 +1,245 @@
 -- A kind-three rule tried: where its parts are, and what it gives. The loop over these rules, and content of no child or several.
-use mathlib.Core.Path.{◌≡◌, refl, sym, ap, ◌∙◌}
+use mathlib.Core.Path.{◌≡◌, refl, sym, ap, ◌∙◌, subst}
 use mathlib.Core.Bool.{Bool, true, false, not, ◌&&◌, ◌||◌}
-use mathlib.Core.List.{List, [], ◌∷◌, flat_map}
-use mathlib.Core.Option.{Option, none, some}
-use mathlib.Core.Logic.{◌≢◌, ◌⊎◌, inl, inr, ⊎_elim}
-use Prim.Native.Nat.{ℕ, suc, ◌+◌, ◌-◌, ◌^◌, ◌≤◌, ◌<◌, ◌*◌, ◌/◌, ◌%◌}
+use mathlib.Core.List.{List, [], ◌∷◌, ◌++◌, flat_map}
+use mathlib.Core.Option.{none, some}
+use mathlib.Core.Option as math
+use mathlib.Core.Logic.{◌≢◌}
+use Prim.Native.Nat.{ℕ, suc, ◌+◌, ◌-◌, ◌^◌, ◌≤◌, ◌<◌, ◌*◌}
 use native.Mathlib.Omega.{arith}
-use lib.ListN.{length, get_or, take, drop, replicate, length-replicate, length-append, drop_of_length-le}
-use lib.Dec.{eqb}
-use borrow.Author.Tests.{not-true, not-false}
-use Rattle.model.specs.Sheet.{Step, Rule, one, two, three, count_words, rule_words, mask, bit}
+use lib.ListN.{length, get_or, take, drop, replicate, length-replicate, length-append, length-map}
+use lib.Dec.{eqb, ltb}
+use borrow.Author.Tests.{not-true, not-false, lt-ltb, le-ltb}
+use Rattle.std.specs.Prelude.{Option, None, Some}
+use Rattle.std.specs.Option.{is_some}
+use Rattle.std.specs.Bool.{then_some}
+use Rattle.std.specs.Borrow.{Bor}
+use Rattle.model.specs.Lists.{only}
+use Rattle.model.specs.Sheet.{Order, Step, Rule, one, two, three, arc_word, set_words, order_words, count_words, rule_words}
+use Rattle.model.specs.Sheet.{mask, bit, RuleInRange}
 use Rattle.model.specs.Words.{fits_order, fits_count, reads}
 use Rattle.model.specs.Words as Words
 use Rattle.model.specs.Run.{at_content, looks_of, content_targets, tries}
-use Rattle.model.specs.Spans.{RuleAt, content, ordered, order_part, count_part}
-use Rattle.model.specs.Index.{key, rules_in, nth}
+use Rattle.model.specs.Spans.{RuleAt, Content, content, there_is, order_part, count_part}
+use Rattle.model.specs.Index.{key, sheet_in, rules_in}
 use Rattle.model.proofs.PartLaws.{words_part}
-use Rattle.model.proofs.RuleWords.{has-order, no_order, order-end, order_absent, count-stands, after-count, target-there, content-words}
-use Rattle.model.proofs.PassedLaws.{few_words, in_range}
-use Rattle.model.proofs.IndexLaws.{rule-ends, chain_first, chain_next}
+use Rattle.model.proofs.RuleWords.{order-room, is-there, not_there, order-at, count-stands, after-count}
+use Rattle.model.proofs.PassedLaws.{in_range}
+use Rattle.bits.proofs.SetLaws.{gathers_none, gathers_more, gathers_all, Gathers}
+use Rattle.indexed.specs.declared.Spot.{Spot}
+use Rattle.indexed.specs.declared.Chain.{Chain}
+use Rattle.indexed.specs.declared.IndexedSheet.{IndexedSheet}
+use Rattle.indexed.specs.Spots.{parts_of}
+use Rattle.indexed.specs.Rules.{rule_of}
+use Rattle.indexed.specs.Walks.{with_key, chain_left, ChainNext}
+use Rattle.indexed.proofs.SpotLaws.{stands}
+use Rattle.indexed.proofs.RuleParts.{target-here}
+use Rattle.indexed.proofs.WalkLaws.{with_key-all}
 use Rattle.judge_order.specs.Order.{StateWords, states_of, OrderPart, OrderSays}
-use Rattle.judge_count.specs.Count.{Occurs, CountPart}
 use Rattle.judge_order.proofs.OrderLaws.{length-states}
-use Rattle.judge_rules.specs.Rules.{Ruled, with_count}
+use Rattle.judge_count.specs.Count.{CountPart}
+use Rattle.judge_count.specs.declared.Counts.{Counts}
+use Rattle.judge_rules.specs.Rules.{with_count}
 use Rattle.judge_rules.specs.declared.targets.Found.{Found}
-use Rattle.judge_rules.proofs.TargetLaws.{kinds, count-some, OnChain, chain_begun, chain_added, chain_ended, chain_less, rule-begins}
-use Rattle.judge_contents.specs.Content.{ContentAt, CountedAt, CountIf, CountHolds, Tries, FindsTargets, FindsContent, Counted}
+use Rattle.judge_rules.proofs.TargetLaws.{count-some}
+use Rattle.judge_contents.specs.Content.{CountIf, CountHolds, FindsTargets, FindsContent, Counted}
+use Rattle.judge_contents.specs.Tries.{Tries}
+use Rattle.judge_contents.specs.declared.Element.{Element}
+
+-- there are counts where it is said that there are some
+lent : (counts : Option Counts) → is_some counts ≡ true → (c : Counts) × (counts ≡ Some c)
+lent None e = let z : ◌≡◌ {A = ℕ} 0 1 = cc in absurd (omega arith)
+lent (Some c) e = (c, refl)
 
 -- a part of a list
 abbrev part : List ℕ → (from end : ℕ) → List ℕ
 part s from end = take (end - from) (drop from s)
 
--- ---- where the parts are
+-- a rule whose key is that of content
+content-rule : (p : ℕ) (r : Rule) → RuleInRange p 64 r → key r ≡ 0 → r ≡ content (parts_of r)
+unfolding key
+content-rule p (one k q) h z = absurd (omega (arith, h))
+content-rule p (two a c q) h z = absurd (omega arith)
+content-rule p (three o c q) h z = refl
 
-module _ {s : List ℕ} {at target : ℕ} (c : ContentAt s at target) where
+-- ---- where the parts of a rule are
+
+module _ (x : Spot) (z : key (rule_of x) ≡ 0) where
+  abbrev s : List ℕ
+  s = x.sheet.words.now
+
+  abbrev p : ℕ
+  p = (sheet_in s).states
+
+  abbrev fields : Content
+  fields = parts_of (rule_of x)
+
+  is-content : rule_of x ≡ content fields
+  is-content = content-rule p (rule_of x) (stands x).begins.ranges z
+
+  here : RuleAt p s x.at (content fields)
+  here = subst (RuleAt p s x.at) is-content (stands x).begins
+
+  few_states : p ≤ 64
+  few_states = (in_range x.sheet.indexed.sheet).few_states
+
   -- where the count part begins, if there is one
   abbrev middle : ℕ
-  middle = at + 1 + length (order_part c.fields.order)
+  middle = x.at + 1 + length (order_part fields.order)
 
-  counts_end : middle + length (count_part c.states c.fields.count) ≡ target
-  counts_end = omega (arith, after-count c.here {c = middle} refl, c.ends)
+  counts_end : middle + length (count_part p fields.count) ≡ x.target
+  counts_end =
+      omega (
+        arith,
+        after-count here {c = middle} refl,
+        (stands x).ends,
+        ap (λ (r : Rule). length (rule_words p r)) is-content,
+      )
 
-  pub target-word : get_or s target 0 ≡ c.fields.target
-  target-word = (target-there c.here c.ends).1
+  pub target_room : x.target < length s
+  target_room = (target-here x).2
 
-  -- ---- the order part, where the map has one
+  -- ---- the order part, where there is one
 
-  module _ {r : Bool} (er : r ≡ ordered (get_or s at 0)) where
-    order_none : not r ≡ true → (c.fields.order ≡ none) × (at + 1 ≡ middle)
-    order_none t = (no_order c.here er (not-true r t), order_absent c.here er (not-true r t))
+  module _ {r : Bool} (er : r ≡ there_is fields.order) where
+    order_none : r ≡ false → (fields.order ≡ none) × (x.at + 1 ≡ middle)
+    order_none t =
+        let e = not_there fields.order (sym er ∙ t) in
+        (e, omega (arith, ap (λ o. length (order_part o)) e))
 
-    module _ (t : not r ≡ false) {m : ℕ} (em : m ≡ at + 1 + 4 + get_or s (at + 1 + 3) 0) where
-      order-ends : (m ≡ middle) × (m ≤ length s)
-      order-ends =
-          let e : at + 4 ≡ at + 1 + 3 = omega arith in
-          let (ends, room) = rw e at (order-end c.here er (not-false r t)) in
-          omega arith
+    pub first_room : r ≡ false → x.at + 1 ≤ x.target
+    first_room t = omega (arith, order_none t, counts_end)
 
-      pub middle_within : m ≤ length s
-      middle_within = order-ends.1
+    module _ (t : r ≡ true) where
+      order_some : (o : Order) × (fields.order ≡ some o)
+      order_some = is-there fields.order (sym er ∙ t)
 
-      order-there : (p : OrderPart (part s (at + 1) m)) × (c.fields.order ≡ some p.order)
-      order-there =
-          let (x, e, h) = has-order c.here er (not-false r t) in
-          let end : m ≡ h.end = omega (arith, rw e at order-ends.0, h.there.ends) in
-          let coded = rw (← end) at (words_part h.there) in
-          (record { states = c.states; order = x; few_states = c.few_states; in_range = h.ranges; coded = coded }, e)
+      pub arcs_room : x.at + 1 + 3 < length s
+      arcs_room = let (o, e) = order_some in omega (arith, (order-room (order-at here e)).0)
 
-      pub order-lent : OrderPart (part s (at + 1) m)
-      order-lent = order-there.0
+      module _ {m : ℕ} (em : m ≡ x.at + 1 + 4 + get_or s (x.at + 1 + 3) 0) where
+        order-ends : (m ≡ middle) × (m ≤ length s)
+        unfolding order_words set_words
+        order-ends =
+            let (o, e) = order_some in
+            let (room, number) = order-room (order-at here e) in
+            (omega (arith, number, ap (λ o. length (order_part o)) e, length-map o.arcs arc_word), omega (arith, number))
 
-  -- ---- the count part, from word m up to the target: there is one where there are words
+        pub middle_room : (m ≤ x.target) × (m ≤ length s)
+        middle_room = omega (arith, order-ends, counts_end)
 
-  module _ {m : ℕ} (em : m ≡ middle) where
-    count-there : ((m ≡ target) × (c.fields.count ≡ none)) ⊎
-        ((m ≢ target) × (p : CountPart (part s m target)) × (c.fields.count ≡ some p.steps))
-    unfolding count_words
-    count-there = go c.fields.count refl
-      where
-        go : (φ : Option (List Step)) → c.fields.count ≡ φ → ((m ≡ target) × (c.fields.count ≡ none)) ⊎
-            ((m ≢ target) × (p : CountPart (part s m target)) × (c.fields.count ≡ some p.steps))
-        go none e = inl (omega (arith, rw e at counts_end), e)
-        go (some steps) e =
-            let h = count-stands c.here em e in
-            let end : target ≡ h.end = omega (arith, rw e at counts_end, h.there.ends) in
+        order-there : (p : OrderPart (part s (x.at + 1) m)) × (fields.order ≡ some p.order)
+        order-there =
+            let (o, e) = order_some in
+            let h = order-at here e in
+            let end : m ≡ h.end = omega (arith, ap (λ o. length (order_part o)) e, order-ends.0, h.there.ends) in
             let coded = rw (← end) at (words_part h.there) in
-            let p : CountPart (part s m target) =
-            record { states = c.states; steps = steps; few_states = c.few_states; in_range = h.ranges; coded = coded } in
-            inr (omega (arith, rw e at counts_end), p, e)
+            (record { states = p; order = o; few_states = few_states; in_range = h.ranges; coded = coded }, e)
 
-    module _ {counts w : List ℕ} (o : CountedAt s at counts w) where
-      occur : {steps : List Step} → c.fields.count ≡ some steps → Occurs counts w
-      unfolding with_count
-      occur e = o.known ((kinds (content c.fields) c.here).count ∙ rw e)
+        pub order-lent : OrderPart (part s (x.at + 1) m)
+        order-lent = order-there.0
 
-      count-lent : CountIf s m target counts
-      count-lent = record {
-        before = omega (arith, counts_end);
-        room = c.room;
-        lent = λ words. ⊎_elim (λ (z, _). absurd (words z)) (λ (_, p, e). (p, (w, occur e))) count-there;
-      }
+  -- ---- the count part, from word m up to the target, if the rule has one
 
-      count_told : {holds : Bool} → CountHolds s m target counts holds → holds ≡ fits_count c.fields.count w
-      unfolding fits_count
-      count_told h = ⊎_elim (λ (z, e). rw e (h.by_none z)) (λ (n, p, e). rw e ((h.by_part n).fitting p w (occur e))) count-there
+  module _ {m : ℕ} (em : m ≡ middle) {c : Bool} (told : c ≡ ltb m x.target) where
+    ec : c ≡ there_is fields.count
+    unfolding count_words
+    ec = told ∙ go fields.count refl
+      where
+        go : (φ : math.Option (List Step)) → fields.count ≡ φ → ltb m x.target ≡ there_is φ
+        go none e = le-ltb m x.target (omega (arith, em, rw e at counts_end))
+        go (some steps) e = lt-ltb m x.target (omega (arith, em, rw e at counts_end))
 
--- ---- what a rule gives
+    count-there : c ≡ true → (q : CountPart (part s m x.target)) × (fields.count ≡ some q.steps)
+    unfolding count_words
+    count-there is =
+        let (steps, e) = is-there fields.count (sym ec ∙ is) in
+        let h = count-stands here em e in
+        let end : x.target ≡ h.end = omega (arith, rw e at counts_end, h.there.ends) in
+        let coded = rw (← end) at (words_part h.there) in
+        (record { states = p; steps = steps; few_states = few_states; in_range = h.ranges; coded = coded }, e)
 
-module _ {s : List ℕ} {at target : ℕ} where
+    module _ (words : Bor (List ℕ)) (ew : words.now ≡ part s m x.target) where
+      count-lent : CountIf (then_some c words)
+      count-lent = go c refl
+        where
+          go : (b : Bool) → c ≡ b → CountIf (then_some b words)
+          go false is = tt
+          go true is = rw ew (count-there is).0
+
+      count_told : {counts : Option Counts} {w : List ℕ} → Counted (rules_in s) counts w → {holds : Bool}
+          → CountHolds (then_some c words) counts holds → holds ≡ fits_count fields.count w
+      unfolding with_count fits_count
+      count_told {counts} {w} o {holds} = go c refl
+        where
+          go : (b : Bool) → c ≡ b → CountHolds (then_some b words) counts holds → holds ≡ fits_count fields.count w
+          go false is h = rw (not_there fields.count (sym ec ∙ is)) h
+          go true is h =
+              let (q, e) = count-there is in
+              let (k, ek) = lent counts (o.known (count-some (rules_in s) x.rule x.spot.number (ap with_count is-content ∙ rw e))) in
+              rw e ((rw ew at (h k ek)).fitting q w (o.each k ek))
+
+  module _ {r c : Bool} (er : r ≡ there_is fields.order) (words : Bor (List ℕ))
+      {told : Option (Bor (List ℕ))} (et : told ≡ then_some c words) where
+    pub first-lent : r ≡ false → c ≡ ltb (x.at + 1) x.target → words.now ≡ part s (x.at + 1) x.target → CountIf told
+    first-lent is ec ew = rw et (count-lent (order_none er is).1 ec words ew)
+
+    pub second-lent : r ≡ true → {m : ℕ} → m ≡ x.at + 1 + 4 + get_or s (x.at + 1 + 3) 0 → c ≡ ltb m x.target
+        → words.now ≡ part s m x.target → CountIf told
+    second-lent is em ec ew = rw et (count-lent (order-ends er is em).0 ec words ew)
+
+  -- ---- what the rule gives
+
   -- by whether both parts fit, and how many children the order part reads
-  tried : {w : List ℕ} {fits : Bool} {n : ℕ} → ContentAt s at target → n < 2 ^ 32
-      → ((c : ContentAt s at target) → (fits ≡ (fits_order c.fields.order w && fits_count c.fields.count w)) ×
-      (n ≡ reads c.fields.order w))
-      → Tries s at target w fits n
+  tried : {w : List ℕ} {fits : Bool} {n : ℕ} → n < 2 ^ 32 → (fits ≡ (fits_order fields.order w && fits_count fields.count w))
+      → n ≡ reads fields.order w → Tries x w fits n
   unfolding at_content looks_of
-  tried here few both =
-      record { gives = λ c. rw (target-word c, (both c).0); takes = λ c. ap suc (sym (both c).1); few = few; there = here.room }
+  tried {w} few both read = record {
+    gives = ap (at_content w) is-content ∙ rw both refl;
+    takes = ap (looks_of w) is-content ∙ ap suc (sym read);
+    few = few;
+  }
 
-  module _ {counts words : List ℕ} (here : ContentAt s at target) (o : CountedAt s at counts (states_of words))
-      (ok : StateWords words) {r : Bool} (er : r ≡ ordered (get_or s at 0)) where
+  -- for an element whose sheet has the rule
+  module _ (e : Element) (same : x.sheet ≡ e.book.now.sheet) {r : Bool} (er : r ≡ there_is fields.order) where
+    abbrev children : List ℕ
+    children = e.children.words.now
+
+    o : Counted (rules_in s) e.counts (states_of children)
+    o = subst (λ (y : IndexedSheet). Counted (rules_in y.words.now) e.counts (states_of children)) (sym same) e.counted
+
     -- without an order part, all children are read
-    pub first-lent : not r ≡ true → CountIf s (at + 1) target counts
-    first-lent t = count-lent here (order_none here er t).1 o
-
-    pub unordered_tries : not r ≡ true → {holds : Bool} → CountHolds s (at + 1) target counts holds → Tries s at target
-        (states_of words) holds (length words)
+    pub unordered_tries : r ≡ false → {c : Bool} → c ≡ ltb (x.at + 1) x.target → (words : Bor (List ℕ))
+        → words.now ≡ part s (x.at + 1) x.target → {told : Option (Bor (List ℕ))} → told ≡ then_some c words
+        → {holds : Bool} → CountHolds told e.counts holds → Tries x (states_of children) holds (length children)
     unfolding fits_order reads
-    unordered_tries t h = tried here (omega (arith, ok.few)) (λ c.
-        let (e, m) = order_none c er t in
-        rw e (count_told c m o h, sym (length-states words)))
+    unordered_tries t ec words ew et h =
+        let (is, m) = order_none er t in
+        let fitted = count_told m ec words ew o (rw et at h) in
+        tried (omega (arith, e.children.states.few)) (rw is fitted) (rw is (sym (length-states children)))
 
-    module _ (t : not r ≡ false) {m : ℕ} (em : m ≡ at + 1 + 4 + get_or s (at + 1 + 3) 0) where
-      pub second-lent : CountIf s m target counts
-      second-lent = count-lent here (order-ends here er t em).0 o
+    module _ (t : r ≡ true) {m : ℕ} (em : m ≡ x.at + 1 + 4 + get_or s (x.at + 1 + 3) 0) where
+      module _ {fits : Bool} {n : ℕ} (says : OrderSays (part s (x.at + 1) m) (states_of children) fits n) where
+        few_read : n < 2 ^ 32
+        few_read = omega (arith, says.within, length-states children, e.children.states.few)
 
-      module _ {fits : Bool} {reads : ℕ} (says : OrderSays (part s (at + 1) m) (states_of words) fits reads) where
-        few_read : reads < 2 ^ 32
-        few_read = omega (arith, says.within, length-states words, ok.few)
+        said : (fits ≡ fits_order fields.order (states_of children)) × (n ≡ Words.reads fields.order (states_of children))
+        said = let (q, is) = order-there er t em in rw is (says.fitting q, says.reading q)
 
-        said : (c : ContentAt s at target) → (fits ≡ fits_order c.fields.order (states_of words)) ×
-            (reads ≡ Words.reads c.fields.order (states_of words))
-        said c = let (p, e) = order-there c er t em in rw e (says.fitting p, says.reading p)
+        pub unfit_tries : not fits ≡ true → Tries x (states_of children) fits n
+        unfit_tries u = let unfit = not-true fits u in tried few_read (rw (sym said.0 ∙ unfit) unfit) said.1
 
-        pub unfit_tries : not fits ≡ true → Tries s at target (states_of words) fits reads
-        unfit_tries e =
-            let unfit = not-true fits e in
-            tried here few_read (λ c. let (fit, read) = said c in (rw (sym fit ∙ unfit) unfit, read))
-
-        pub ordered-tries : not fits ≡ false → {holds : Bool} → CountHolds s m target counts holds
-            → Tries s at target (states_of words) holds reads
-        ordered-tries e h = tried here few_read (λ c.
-            let (fit, read) = said c in
-            (rw (sym fit ∙ not-false fits e) (count_told c (order-ends c er t em).0 o h), read))
+        pub ordered-tries : not fits ≡ false → {c : Bool} → c ≡ ltb m x.target → (words : Bor (List ℕ))
+            → words.now ≡ part s m x.target → {told : Option (Bor (List ℕ))} → told ≡ then_some c words
+            → {holds : Bool} → CountHolds told e.counts holds → Tries x (states_of children) holds n
+        ordered-tries u ec words ew et h =
+            let fitted = count_told (order-ends er t em).0 ec words ew o (rw et at h) in
+            tried few_read (rw (sym said.0 ∙ not-false fits u) fitted) said.1
 
 -- ---- looks along the chain
 
 -- as many words as a rule takes looks
-pub looked : List ℕ → Rule → List ℕ
+looked : List ℕ → Rule → List ℕ
 looked w x = replicate (looks_of w x) 0
 
 tries_are : (w : List ℕ) (R : List Rule) → tries R w ≡ length (flat_map (looked w) R)
@@ -171,92 +254,70 @@ apart w (one k q) d = (refl, refl)
 apart w (two a c q) d = (refl, refl)
 apart w (three o c q) d = absurd (d refl)
 
--- ---- the rule in hand
-
--- a rule whose key is that of content
-content-rule : {p a e : ℕ} {s : List ℕ} (x : Rule) → p ≤ 64 → length s ≤ 16384 → RuleAt p s a x → key x ≡ 0
-    → e ≡ a + length (rule_words p x) → (1 ≤ e) × (c : ContentAt s a (e - 1)) × (x ≡ content c.fields)
-unfolding key
-content-rule (one k q) few short h z ends = absurd (omega (arith, h.ranges))
-content-rule (two b c q) few short h z ends = absurd (omega arith)
-content-rule {p} {a} {e} (three o c q) few short h z ends =
-    let long = ap length (content-words p o c q) in
-    let last : e - 1 + 1 ≡ a + length (rule_words p (three o c q)) = omega arith in
-    let rule : ContentAt _ a (e - 1) = record {
-      states = p;
-      fields = record { order = o; count = c; target = q };
-      few_states = few;
-      few_words = short;
-      before = omega (arith, after-count h {c = a + 1 + length (order_part o)} refl);
-      room = (target-there h last).0;
-      here = h;
-      ends = last;
-    } in
-    (omega arith, rule, refl)
+-- no more rules have a key than there are
+keyed_few : (k : ℕ) (R : List Rule) → length (with_key k R) ≤ length R
+unfolding flat_map only
+keyed_few k [] = omega arith
+keyed_few k (r ∷ R) = go (eqb (key r) k) (with_key k R) (keyed_few k R)
+  where
+    go : (b : Bool) (l : List Rule) → length l ≤ length R → length (only b r ++ l) ≤ suc (length R)
+    go true l h = omega arith
+    go false l h = omega arith
 
 -- ---- the loop over the kind-three rules
 
--- what the rules from the i-th on add to the set, and take in looks, makes what all of them give and take
-pub record Trying (R : List Rule) (w : List ℕ) (i targets looks : ℕ) : Type 0 where
-  pub chain : OnChain (at_content w) 0 R i targets
-  pub taking : looks + length (flat_map (looked w) (drop i R)) ≡ length (flat_map (looked w) R)
-  pub few : (looks ≤ i * 2 ^ 32) × (looks ≤ 2 ^ 42)
+-- What the rules that are left on the chain add to the set, and take in looks, makes what all of them give and take.
+pub record Trying (sheet : IndexedSheet) (w : List ℕ) (c : Chain) (targets looks : ℕ) : Type 0 where
+  pub of_sheet : c.sheet ≡ sheet
+  keyed : c.key ≡ 0
+  adding : Gathers targets (flat_map (at_content w) (chain_left c)) (flat_map (at_content w) (rules_in sheet.words.now))
+  taking : looks + length (flat_map (looked w) (chain_left c)) ≡ length (flat_map (looked w) (rules_in sheet.words.now))
+  few : looks + length (chain_left c) * 2 ^ 32 ≤ 2 ^ 42
 
-module _ {s index : List ℕ} {rules : ℕ} (h : Ruled s index rules) {w : List ℕ} where
-  pub trying_begun : {i : ℕ} → i ≡ get_or index 0 0 → Trying (rules_in s) w i 0 0
-  trying_begun {i = i} e =
-      let (all, _) = chain_first h.indexed (looked w) (λ x d. (apart w x d).1) (omega arith) e in
-      record {
-        chain = chain_begun h (at_content w) (λ x d. (apart w x d).0) (omega arith) e;
-        taking = omega (arith, ap length all);
-        few = omega arith;
-      }
+pub trying_begun : {sheet : IndexedSheet} {w : List ℕ} {c : Chain} → c.sheet ≡ sheet → c.key ≡ 0
+    → chain_left c ≡ with_key 0 (rules_in sheet.words.now) → Trying sheet w c 0 0
+trying_begun {sheet} {w} es ek e =
+    let R = rules_in sheet.words.now in
+    record {
+      of_sheet = es;
+      keyed = ek;
+      adding = rw (e, with_key-all (at_content w) (λ x d. (apart w x d).0) R) (gathers_none (flat_map (at_content w) R));
+      taking = rw (e, with_key-all (looked w) (λ x d. (apart w x d).1) R) (omega arith);
+      few = rw e (omega (arith, keyed_few 0 R, (in_range sheet.indexed.sheet).few_rules));
+    }
 
-  -- the occurrences are counted, if the i-th rule has a count part
-  pub next-counted : {i word begin : ℕ} {counts : List ℕ} → Counted (rules_in s) counts w → i < rules → word ≡ get_or index (67 + i) 0
-      → begin ≡ word % 2 ^ 16 → CountedAt s begin counts w
-  next-counted {i} o l ew eb =
-      let says = (kinds (nth (rules_in s) i) (rule-begins h l ew eb)).count in
-      record { known = λ e. o.known (count-some (rules_in s) i (omega arith) (sym says ∙ e)) }
+module _ {sheet : IndexedSheet} {w : List ℕ} {c : Chain} {targets looks : ℕ} (g : Trying sheet w c targets looks) where
+  pub trying_few : looks ≤ 2 ^ 42
+  trying_few = omega (arith, g.few)
 
-  module _ {i targets looks word begin after end : ℕ} (g : Trying (rules_in s) w i targets looks) (l : i < rules)
-      (ew : word ≡ get_or index (67 + i) 0) (eb : begin ≡ word % 2 ^ 16) (ea : after ≡ get_or index (67 + (i + 1)) 0)
-      (ee : end ≡ after % 2 ^ 16) where
-    content-here : (1 ≤ end) × (c : ContentAt s begin (end - 1)) × (nth (rules_in s) i ≡ content c.fields)
-    content-here =
-        let inside : i < length (rules_in s) = omega arith in
-        let sheet = h.indexed.sheet in
-        content-rule (nth (rules_in s) i) (in_range sheet).few_states (few_words sheet).1 (rule-begins h l ew eb) (g.chain.keyed inside)
-        (ee ∙ rw (← eb) at (rule-ends h.indexed inside ew ea))
+  module _ {d : Chain} (x : Spot) (next : ChainNext c x d) where
+    pub next_sheet : x.sheet ≡ sheet
+    next_sheet = next.of_sheet ∙ g.of_sheet
 
-    pub ends_some : 1 ≤ end
-    ends_some = content-here.0
+    pub next_key : key (rule_of x) ≡ 0
+    next_key = next.has_key ∙ g.keyed
 
-    pub next-content : ContentAt s begin (end - 1)
-    next-content = content-here.1
-
-    pub trying_more : {next r reads : ℕ} {fits : Bool} → next ≡ word / 2 ^ 16 → Tries s begin (end - 1) w fits reads
-        → r ≡ mask 64 (λ j. bit targets j || (fits && eqb j (get_or s (end - 1) 0))) → Trying (rules_in s) w next r (looks + (1 + reads))
-    unfolding looked
-    trying_more {next} {fits = fits} en t m =
-        let (_, c, is) = content-here in
-        let inside : i < length (rules_in s) = omega arith in
-        let e = en ∙ ap (λ (x : ℕ). x / 2 ^ 16) ew in
-        let (rest, _) = chain_next h.indexed (looked w) (λ x d. (apart w x d).1) inside (g.chain.keyed inside) e in
-        let (later, within) = chain_less h l ew en in
-        let small : get_or s (end - 1) 0 < 64 = omega (arith, target-word c, c.here.ranges.2, c.few_states) in
+    pub trying_more : {n r target : ℕ} {fits : Bool} → Tries x w fits n → target ≡ (parts_of (rule_of x)).target
+        → target < (sheet_in x.sheet.words.now).states → r ≡ mask 64 (λ j. bit targets j || (fits && eqb j target))
+        → Trying sheet w d r (looks + (1 + n))
+    unfolding flat_map looked
+    trying_more {fits = fits} t et lt er =
         record {
-          chain = chain_added h (at_content w) (λ x d. (apart w x d).0) g.chain l ew en fits (ap (at_content w) is ∙ t.gives c) small m;
-          taking = omega (arith, g.taking, simp (length-append, length-replicate) at (ap length rest), ap (looks_of w) is ∙ t.takes c);
-          few = omega (arith, g.few.0, t.few);
+          of_sheet = next.sheet ∙ g.of_sheet;
+          keyed = next.same_key ∙ g.keyed;
+          adding = gathers_more fits _ (omega (arith, lt, (in_range x.sheet.indexed.sheet).few_states)) er
+              (rw (next.rule, t.gives, ← et) at g.adding);
+          taking = omega (arith, simp (length-append, length-replicate) at (rw next.rule at g.taking), t.takes);
+          few = omega (arith, rw next.rule at g.few, t.few);
         }
 
-  pub trying_ended : {f : Found} {i : ℕ} → Trying (rules_in s) w i f.targets f.looks → rules ≤ i → FindsTargets (rules_in s) w f
+  pub trying_ended : chain_left c ≡ [] → FindsTargets (rules_in sheet.words.now) w (record { targets = targets; looks = looks })
   unfolding flat_map
-  trying_ended {i = i} g l =
-      let none = drop_of_length-le (rules_in s) {i = i} (omega arith) in
-      let all = tries_are w (rules_in s) in
-      record { reached = chain_ended h g.chain l; number = omega (arith, rw none at g.taking); few = g.few.1 }
+  trying_ended e = record {
+    reached = gathers_all (rw e at g.adding);
+    number = omega (arith, rw e at g.taking, tries_are w (rules_in sheet.words.now));
+    few = trying_few;
+  }
 
 -- ---- no child, and several
 

@@ -2,32 +2,27 @@
 use mathlib.Core.Path.{◌≡◌, refl, sym, ap, ◌∙◌}
 use mathlib.Core.Bool.{Bool, true, false, cond}
 use mathlib.Core.List.Memᴰ
-use mathlib.Core.List.{List, [], ◌∷◌, map}
-use mathlib.Core.Logic.{◌≢◌}
+use mathlib.Core.List.{List, [], ◌∷◌, ◌++◌, map}
 use Prim.Native.Nat.{ℕ, zero, suc, ◌+◌, ◌-◌, ◌≤◌, ◌<◌, ◌*◌, ◌^◌}
 use native.Mathlib.Omega.{arith}
 use native.Mathlib.Nat.{zero-add, mul-le-mul_right}
 use native.Mathlib.Numerals.{add-one}
 use lib.Dec.{eqb, ltb}
-use lib.ListN.{length, get_or, drop, set, replicate, length-set, drop_of_length-le}
-use lib.Seq.{drop-cons, get_or-set_same, get_or-set_other}
+use lib.ListN.{length, get_or, take, drop, set, replicate, length-set, length-drop, drop_of_length-le}
+use lib.Seq.{drop-cons, take_all, get_or-set_same, get_or-set_other}
 use lib.IntN.{ℤ, pos, negsuc, neg_ℤ, nat_abs, sub_ℕ, ◌+ℤ◌, ◌*ℤ◌, +ℤ_assoc, +ℤ_idl, +ℤ_idr}
 use borrow.Author.Tests.{lt-ltb, le-ltb, ltb-true}
-use mir.Syntax.{w32}
-use mir.Val.{SFits}
 use Rattle.model.specs.Lists.{◌∈◌, Ascending, only}
 use Rattle.model.specs.Words.{occurrences, total}
 use Rattle.model.specs.Sheet.{Coefficient, W, set_words, signed_word, marks, sum_words, small, signed_32, members, signed}
-use Rattle.model.specs.Spans.{WordsAt}
 use Rattle.model.proofs.Tests.{Told, yea, nay, told, same, eqb_yes, eqb_no, eqb-false, eqb_like, Yes, between_inv}
 use Rattle.model.proofs.ListLaws.{asc_only}
-use Rattle.model.proofs.Spans.{word-there, word-here, word_next}
 use Rattle.model.proofs.SetWords.{members_set}
 use Rattle.bits.specs.Stands.{Stands}
-use Rattle.bits.proofs.SetLaws.{stands_none, stands-some, members_stand, stands-members, words_stand}
+use Rattle.bits.proofs.SetLaws.{stands-members, words_stand}
 use Rattle.judge_order.specs.Order.{StateWords, states_of}
 use Rattle.judge_order.proofs.OrderLaws.{length-states}
-use Rattle.judge_count.specs.Count.{Occurs, Counts, SumFrom, Summed}
+use Rattle.judge_count.specs.Count.{Occurs, in_all, FewCounted, SumFirst, Summed}
 
 -- ---- different states
 
@@ -40,6 +35,11 @@ among_more : (q : ℕ) (l w : List ℕ) → among (q ∷ l) w ≡ occurrences q 
 unfolding among occurrences
 among_more q l [] = refl
 among_more q l (x ∷ w) = omega (arith, ap {B = ℕ} (λ b. cond b 1 0) (eqb_like q x x q sym sym), among_more q l w)
+
+among_none : (w : List ℕ) → among [] w ≡ 0
+unfolding among occurrences
+among_none [] = refl
+among_none (x ∷ w) = omega (arith, among_none w)
 
 occurrences_none : (x : ℕ) (l : List ℕ) → (x ∈ l → ⊥) → occurrences x l ≡ 0
 unfolding occurrences
@@ -61,6 +61,14 @@ among_≤ : (l w : List ℕ) → Ascending l → among l w ≤ length w
 unfolding among
 among_≤ l [] a = omega arith
 among_≤ l (x ∷ w) a = omega (arith, ascending_once x l a, among_≤ l w a)
+
+-- how often states occur makes such counts
+pub few_counted : {counts w : List ℕ} → Occurs counts w → FewCounted counts
+few_counted {counts} {w} o = record { long = o.long; few = λ l a. omega (arith, same l, among_≤ l w a, o.few) }
+  where
+    same : (l : List ℕ) → in_all counts l ≡ among l w
+    same [] = sym (among_none w)
+    same (q ∷ l) = omega (arith, o.each q, same l, among_more q l w)
 
 -- ---- counting occurrences
 
@@ -139,18 +147,6 @@ abs_plus (pos a) (negsuc b) = abs_minus a b
 abs_plus (negsuc a) (pos b) = omega (arith, abs_minus b a)
 abs_plus (negsuc a) (negsuc b) = omega arith
 
-small-fits : {z : ℤ} → nat_abs z < 2 ^ 31 → SFits w32 z
-small-fits {z = pos n} h = record { sfits = h }
-small-fits {z = negsuc n} h = record { sfits = omega arith }
-
--- times × count, and total more, are signed numbers of 32 bits
-pub sum_fits : {total times : ℤ} {count : ℕ} → SFits w32 total → SFits w32 times
-    → (nat_abs total + nat_abs times * count < 2 ^ 31) × (count < 2 ^ 31)
-    → SFits w32 (times *ℤ pos count) × SFits w32 (total +ℤ (times *ℤ pos count))
-sum_fits {total} {times} {count} ft fc (h, hn) =
-    let size = abs_times times count in
-    (small-fits (omega arith), small-fits (omega (arith, abs_plus total (times *ℤ pos count))))
-
 -- ---- coefficients
 
 -- a signed number is what its word stands for
@@ -169,139 +165,123 @@ small-known (negsuc n) y = let l = ltb-true n 32768 y in (lt-ltb n (2 ^ 31) (ome
 
 -- ---- what is left of a sum
 
--- The coefficients of the states in `set`, those in `rest`, stand from word `at` on, and their terms with `sum` make the whole sum.
-record Terms (part : List ℕ) (end : ℕ) (all : List Coefficient) (w : List ℕ) (set at : ℕ) (sum : ℤ) (rest : List Coefficient) : Type 0 where
-  marked : members 64 set ≡ marks rest
-  words : WordsAt part at end (map (λ c. signed_word c.times) rest)
-  smalls : (c : Coefficient) → c ∈ rest → Yes (small c.times)
-  adds : sum +ℤ total rest w ≡ total all w
-  bounded : nat_abs sum + 32768 * among (marks rest) w ≤ 32768 * 4096
+-- what is left of words after k of them are read
+pub slice-rest : (k : ℕ) (l : List ℕ) → take (length l - k) (drop k l) ≡ drop k l
+slice-rest k l = take_all (length l - k) (drop k l) (omega (arith, length-drop k l))
 
-pub record SumLeft (part counts : List ℕ) (from set at : ℕ) (sum : ℤ) : Type 0 where
-  pub fits : set < 2 ^ 64
-  pub whole : SumFrom part from
-  pub counted : Counts counts
-  terms : (h : SumFrom part from) (w : List ℕ) → Occurs counts w
-      → (rest : List Coefficient) × Terms part h.next h.coefficients w set at sum rest
+-- The coefficients cs of the states in l stand first in the words `rest`, and their terms with `sum` make the whole sum.
+record Terms (words counts : List ℕ) (h : SumFirst words) (l rest : List ℕ) (sum : ℤ) (cs : List Coefficient) : Type 0 where
+  marked : l ≡ marks cs
+  stand : rest ≡ map (λ c. signed_word c.times) cs ++ h.rest
+  smalls : (c : Coefficient) → c ∈ cs → Yes (small c.times)
+  adds : (w : List ℕ) → Occurs counts w → sum +ℤ total cs w ≡ total h.coefficients w
+  bounded : nat_abs sum + 32768 * in_all counts (marks cs) ≤ 32768 * 4096
+
+pub record SumLeft (words counts l rest : List ℕ) (sum : ℤ) : Type 0 where
+  pub whole : SumFirst words
+  pub few : FewCounted counts
+  terms : (h : SumFirst words) → (cs : List Coefficient) × Terms words counts h l rest sum cs
 
 -- the two words of marks
-module _ {part : List ℕ} {from : ℕ} (h : SumFrom part from) where
-  pub marks-there : from + 1 < length part
+module _ {words : List ℕ} (h : SumFirst words) where
+  pub marks-there : 2 ≤ length words
   unfolding sum_words set_words
-  marks-there = word-there (word_next h.stands)
+  marks-there = omega (arith, ap length h.coded)
 
-  module _ {r : ℕ} (e : r ≡ get_or part from 0 + get_or part (from + 1) 0 * W) where
+  module _ {r : ℕ} (e : r ≡ get_or words 0 0 + get_or words 1 0 * W) where
     marks_stand : Stands r (marks h.coefficients)
     unfolding sum_words set_words
-    marks_stand = words_stand h.states (marks h.coefficients) h.few_states h.in_range.marked
-        (rw (word-here h.stands, word-here (word_next h.stands)) at e)
+    marks_stand = words_stand h.states (marks h.coefficients) h.few_states h.in_range.marked (rw h.coded at e)
 
-    first_terms : {w : List ℕ} → length w ≤ 4096 → Terms part h.next h.coefficients w r (from + 2) (pos 0) h.coefficients
+    first_terms : {counts : List ℕ} → FewCounted counts → Terms words counts h (members 64 r) (drop 2 words) (pos 0) h.coefficients
     unfolding sum_words set_words
-    first_terms {w} few =
+    first_terms few =
         let m = h.in_range.marked in
-        let two : from + 1 + 1 ≡ from + 2 = omega arith in
         record {
           marked = stands-members marks_stand (record { ascends = m.ascends; below = λ q n. omega (arith, m.below q n, h.few_states) });
-          words = rw two at (word_next (word_next h.stands));
+          stand = ap (drop 2) h.coded;
           smalls = h.in_range.coefficients;
-          adds = +ℤ_idl _;
-          bounded = omega (arith, among_≤ (marks h.coefficients) w m.ascends);
+          adds = λ w o. +ℤ_idl _;
+          bounded = omega (arith, few.few (marks h.coefficients) m.ascends);
         }
 
-pub no_term : {part counts : List ℕ} {from r : ℕ} → SumFrom part from → Counts counts
-    → r ≡ get_or part from 0 + get_or part (from + 1) 0 * W → SumLeft part counts from r (from + 2) (pos 0)
-no_term h k e = record { fits = (marks_stand h e).fits; whole = h; counted = k; terms = λ h w o. (_, first_terms h e o.few) }
+pub no_term : {words counts : List ℕ} {r set : ℕ} → SumFirst words → FewCounted counts → r ≡ get_or words 0 0 + get_or words 1 0 * W
+    → set ≡ r → SumLeft words counts (members 64 set) (take (length words - 2) (drop 2 words)) (pos 0)
+no_term {words} h few e es =
+    rw (es, slice-rest 2 words) (record { whole = h; few = few; terms = λ h. (_, first_terms h e few) })
 
 -- ---- the next term
 
--- the first of the coefficients that are left, by its word and the lowest state of the set
-module _ {part w counts : List ℕ} {end set at q : ℕ} {all cs : List Coefficient} {sum : ℤ} {c : Coefficient} (o : Occurs counts w)
-    (t : Terms part end all w set at sum (c ∷ cs)) (eq : q ≡ get_or (members 64 set) 0 64) where
-  next-below : q < 64
-  next-below = rw (eq, t.marked) ((members_set 64 set).below _ (rw t.marked (Memᴰ.head refl)))
+-- the first of the coefficients that are left, by its word and its state
+module _ {words counts l rest : List ℕ} {q : ℕ} {sum : ℤ} {h : SumFirst words} {c : Coefficient} {cs : List Coefficient}
+    (t : Terms words counts h (q ∷ l) rest sum (c ∷ cs)) {times : ℤ} (et : times ≡ signed (get_or rest 0 0)) where
+  term_is : (q ≡ c.state) × (l ≡ marks cs) × (times ≡ c.times) × (nat_abs c.times * get_or counts q 0 ≤ 32768 * get_or counts q 0)
+  term_is =
+      let (fits, size) = small-known c.times (t.smalls c (Memᴰ.head refl)) in
+      let same = t.marked in
+      let first : q ≡ c.state = cc in
+      let others : l ≡ marks cs = cc in
+      (first, others, et ∙ rw t.stand (signed_back c.times fits), mul-le-mul_right _ size)
 
-  module _ {times : ℤ} (et : times ≡ signed (get_or part at 0)) where
-    term_is : (times ≡ c.times) × (get_or counts q 0 ≡ occurrences c.state w)
-        × (nat_abs c.times * occurrences c.state w ≤ 32768 * occurrences c.state w)
-    term_is =
-        let (fits, size) = small-known c.times (t.smalls c (Memᴰ.head refl)) in
-        let state : q ≡ c.state = eq ∙ rw t.marked in
-        let is = et ∙ ap signed (word-here t.words) ∙ signed_back c.times fits in
-        (is, rw state (o.each c.state), mul-le-mul_right _ size)
+  next-room : (nat_abs sum + nat_abs times * get_or counts q 0 < 2 ^ 31) × (get_or counts q 0 < 2 ^ 31)
+  next-room =
+      let (first, others, is, size) = term_is in
+      let bounded = rw (← first) at t.bounded in
+      rw is (omega (arith, bounded, size), omega (arith, bounded))
 
-    next-room : (nat_abs sum + nat_abs times * get_or counts q 0 < 2 ^ 31) × (get_or counts q 0 < 2 ^ 31)
-    next-room =
-        let (e, n, term) = term_is in
-        let all = among_more c.state (marks cs) w in
-        rw (e, n) (omega (arith, t.bounded), omega (arith, t.bounded))
+  next_terms : {next : ℤ} → next ≡ sum +ℤ (times *ℤ pos (get_or counts q 0)) → Terms words counts h l (drop 1 rest) next cs
+  unfolding total
+  next_terms es =
+      let (first, others, is, size) = term_is in
+      let k : ℕ = get_or counts q 0 in
+      rw (es, is) (record {
+        marked = others;
+        stand = ap (drop 1) t.stand;
+        smalls = λ d i. t.smalls d (Memᴰ.tail i);
+        adds = λ w o.
+            let same : k ≡ occurrences c.state w = ap (λ (x : ℕ). get_or counts x 0) first ∙ o.each c.state in
+            rw same (+ℤ_assoc sum (c.times *ℤ pos (occurrences c.state w)) (total cs w) ∙ t.adds w o);
+        bounded = omega (arith, size, rw (← first) at t.bounded, abs_plus sum (c.times *ℤ pos k), abs_times c.times k);
+      })
 
-    next_terms : {r : ℕ} → members 64 r ≡ drop 1 (members 64 set)
-        → Terms part end all w r (at + 1) (sum +ℤ (times *ℤ pos (get_or counts q 0))) cs
-    unfolding total
-    next_terms em =
-        let (e, n, term) = term_is in
-        let k : ℕ = occurrences c.state w in
-        let all = among_more c.state (marks cs) w in
-        rw (e, n) (record {
-          marked = em ∙ ap (drop 1) t.marked;
-          words = word_next t.words;
-          smalls = λ d i. t.smalls d (Memᴰ.tail i);
-          adds = +ℤ_assoc sum (c.times *ℤ pos k) (total cs w) ∙ t.adds;
-          bounded = omega (arith, t.bounded, abs_plus sum (c.times *ℤ pos k), abs_times c.times k);
-        })
-
-module _ {part counts : List ℕ} {from set at : ℕ} {sum : ℤ} (left : SumLeft part counts from set at sum) where
-  module _ (n : set ≢ 0) where
-    some_member : (x : ℕ) × (xs : List ℕ) × (members 64 set ≡ x ∷ xs)
-    some_member = stands-some (members_stand left.fits) n
-
-    pub fewer_left : (r : ℕ) → members 64 r ≡ drop 1 (members 64 set) → length (members 64 r) < length (members 64 set)
-    fewer_left r e = let (x, xs, c) = some_member in rw (e, c) (omega arith)
-
+module _ {words counts l rest : List ℕ} {sum : ℤ} (left : SumLeft words counts l rest sum) where
+  module _ {q : ℕ} {next : List ℕ} (e : l ≡ q ∷ next) where
     -- a coefficient is left
-    some_term : (h : SumFrom part from) {w : List ℕ} → Occurs counts w
-        → (c : Coefficient) × (cs : List Coefficient) × Terms part h.next h.coefficients w set at sum (c ∷ cs)
-    some_term h {w} o = go (left.terms h w o)
+    some_term : (h : SumFirst words) → (c : Coefficient) × (cs : List Coefficient) × Terms words counts h (q ∷ next) rest sum (c ∷ cs)
+    some_term h = go (rw e at (left.terms h))
       where
-        go : (rest : List Coefficient) × Terms part h.next h.coefficients w set at sum rest
-            → (c : Coefficient) × (cs : List Coefficient) × Terms part h.next h.coefficients w set at sum (c ∷ cs)
-        go ([], t) =
-            let (x, xs, e) = some_member in
-            let z : ◌≡◌ {A = List ℕ} [] (x ∷ xs) = sym t.marked ∙ e in
-            absurd (let o : ◌≡◌ {A = ℕ} 0 1 = cc in omega arith)
+        go : (cs : List Coefficient) × Terms words counts h (q ∷ next) rest sum cs
+            → (c : Coefficient) × (cs : List Coefficient) × Terms words counts h (q ∷ next) rest sum (c ∷ cs)
+        go ([], t) = absurd (let m = t.marked in let o : ◌≡◌ {A = ℕ} 0 1 = cc in omega arith)
         go (c ∷ cs, t) = (c, cs, t)
 
-    -- its word is in the part
-    pub term_there : at < length part
-    term_there = let (w, o) = left.counted in word-there (some_term left.whole o).2.words
+    -- its word is there
+    pub term_there : 0 < length rest
+    term_there = let (c, cs, t) = some_term left.whole in omega (arith, ap length t.stand)
 
-    module _ {q : ℕ} (eq : q ≡ get_or (members 64 set) 0 64) where
-      -- its state is counted
-      pub term_counted : q < length counts
-      term_counted = let (w, o) = left.counted in omega (arith, next-below o (some_term left.whole o).2 eq, o.long)
+    module _ {times : ℤ} (et : times ≡ signed (get_or rest 0 0)) where
+      -- there is room for its term
+      pub term_room : (nat_abs sum + nat_abs times * get_or counts q 0 < 2 ^ 31) × (get_or counts q 0 < 2 ^ 31)
+      term_room = let (c, cs, t) = some_term left.whole in next-room t et
 
-      module _ {times : ℤ} (et : times ≡ signed (get_or part at 0)) where
-        -- there is room for its term
-        pub term_room : (nat_abs sum + nat_abs times * get_or counts q 0 < 2 ^ 31) × (get_or counts q 0 < 2 ^ 31)
-        term_room = let (w, o) = left.counted in next-room o (some_term left.whole o).2 eq et
+      pub one_term : {more : ℤ} → more ≡ sum +ℤ (times *ℤ pos (get_or counts q 0))
+          → SumLeft words counts next (take (length rest - 1) (drop 1 rest)) more
+      one_term es =
+          rw (slice-rest 1 rest) (record {
+            whole = left.whole;
+            few = left.few;
+            terms = λ h. let (c, cs, t) = some_term h in (cs, next_terms t et es);
+          })
 
-        pub one_term : {r : ℕ} {sum' : ℤ} → sum' ≡ sum +ℤ (times *ℤ pos (get_or counts q 0)) → members 64 r ≡ drop 1 (members 64 set)
-            → r < 2 ^ 64 → SumLeft part counts from r (at + 1) sum'
-        one_term {r} es em f = record {
-          fits = f;
-          whole = left.whole;
-          counted = left.counted;
-          terms = λ h w o. let (c, cs, t) = some_term h o in (cs, rw es (next_terms o t eq et em));
-        }
+  -- its state is counted
+  pub term_counted : (m : ℕ) {q : ℕ} {next : List ℕ} → members 64 m ≡ q ∷ next → q < length counts
+  term_counted m {q} e = omega (arith, left.few.long, (members_set 64 m).below q (rw e (Memᴰ.head refl)))
 
-  pub all_terms : set ≡ 0 → Summed part from counts at sum
+  pub all_terms : l ≡ [] → Summed words counts rest sum
   unfolding total
-  all_terms z h w o = go (left.terms h w o)
+  all_terms z = record { left = λ h. (go h (left.terms h)).0; is = λ h. (go h (left.terms h)).1 }
     where
-      go : (rest : List Coefficient) × Terms part h.next h.coefficients w set at sum rest
-          → (at ≡ h.next) × (sum ≡ total h.coefficients w)
-      go ([], t) = (omega (arith, t.words.ends), sym (+ℤ_idr sum) ∙ t.adds)
-      go (c ∷ cs, t) =
-          let e : marks (c ∷ cs) ≡ [] = sym t.marked ∙ stands_none (members_stand left.fits) z in
-          absurd (let o : ◌≡◌ {A = ℕ} 0 1 = cc in omega arith)
+      go : (h : SumFirst words) → (cs : List Coefficient) × Terms words counts h l rest sum cs
+          → (rest ≡ h.rest) × ((w : List ℕ) → Occurs counts w → sum ≡ total h.coefficients w)
+      go h ([], t) = (t.stand, λ w o. sym (+ℤ_idr sum) ∙ t.adds w o)
+      go h (c ∷ cs, t) = absurd (let m = sym z ∙ t.marked in let o : ◌≡◌ {A = ℕ} 0 1 = cc in omega arith)

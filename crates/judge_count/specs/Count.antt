@@ -1,10 +1,11 @@
 -- What the functions on count parts are lent, and what they find, in the model's terms.
-use Rattle.std.specs.Prelude.{◌≡◌, Bool, false, cond, List, ℕ, ◌+◌, ◌^◌, ◌≤◌, ◌<◌, eqb, ℤ, length, get_or}
+use Rattle.std.specs.Prelude.{◌≡◌, Bool, false, cond, List, ℕ, ◌+◌, ◌^◌, ◌≤◌, ◌<◌, eqb, ℤ, length, get_or, drop}
 use Rattle.std.proofs.Math.Option.{some}
 use Rattle.std.specs.Int.Signed.{le_z}
+use mathlib.Core.List.{[], ◌∷◌, ◌++◌}
+use Rattle.model.specs.Lists.{Ascending}
 use Rattle.model.specs.Sheet.{Coefficient, Step, sum_words, step_words, count_words, SumInRange, StepInRange, CountInRange, signed, bit}
 use Rattle.model.specs.Words.{occurrences, total, remainder_of, holds, fits_count}
-use Rattle.model.specs.Spans.{WordsAt}
 
 -- ---- children
 
@@ -14,9 +15,15 @@ pub record Occurs (counts w : List ℕ) : Type 0 where
   pub each : (q : ℕ) → get_or counts q 0 ≡ occurrences q w
   pub few : length w ≤ 4096
 
--- such counts, of any states
-abbrev pub Counts : List ℕ → Type 0
-Counts counts = (w : List ℕ) × Occurs counts w
+-- how often the states in a list occur in all, by the counts
+abbrev pub in_all : (counts states : List ℕ) → ℕ
+in_all counts [] = 0
+in_all counts (q ∷ l) = get_or counts q 0 + in_all counts l
+
+-- counts for 64 states; different states occur at most 4,096 times in all
+pub record FewCounted (counts : List ℕ) : Type 0 where
+  pub long : length counts ≡ 64
+  pub few : (l : List ℕ) → Ascending l → in_all counts l ≤ 4096
 
 -- ---- count parts
 
@@ -34,27 +41,29 @@ pub record CountSays (part counts : List ℕ) (fits : Bool) : Type 0 where
 
 -- ---- sums
 
--- a sum whose words begin at word `from`; the place past them, and what it comes to
-pub record SumFrom (part : List ℕ) (from : ℕ) : Type 0 where
+-- words that begin with those of a sum, and the words after it
+pub record SumFirst (words : List ℕ) : Type 0 where
   pub states : ℕ
   pub coefficients : List Coefficient
-  pub next : ℕ
+  pub rest : List ℕ
   pub few_states : states ≤ 64
   pub in_range : SumInRange states coefficients
-  pub stands : WordsAt part from next (sum_words states coefficients)
+  pub coded : words ≡ sum_words states coefficients ++ rest
 
-abbrev pub Summed : List ℕ → ℕ → List ℕ → ℕ → ℤ → Type 0
-Summed part from counts next z = (h : SumFrom part from) (w : List ℕ) → Occurs counts w → (next ≡ h.next) × (z ≡ total h.coefficients w)
+-- the words after the sum, and what it comes to
+pub record Summed (words counts rest : List ℕ) (z : ℤ) : Type 0 where
+  pub left : (h : SumFirst words) → rest ≡ h.rest
+  pub is : (h : SumFirst words) (w : List ℕ) → Occurs counts w → z ≡ total h.coefficients w
 
--- a sum z is at most the bound at word `end`; the place past it
-abbrev pub AtMost : List ℕ → ℕ → ℤ → ℕ → Bool → Type 0
-AtMost part end z next b = (b ≡ le_z z (signed (get_or part end 0))) × (next ≡ end + 1)
+-- a sum z is at most the bound that comes first; the words after it
+abbrev pub AtMost : List ℕ → ℤ → (rest : List ℕ) → Bool → Type 0
+AtMost words z rest b = (b ≡ le_z z (signed (get_or words 0 0))) × (rest ≡ drop 1 words)
 
--- a sum z leaves the remainder at word `end + 1` on division by the modulus at word `end`
-abbrev pub Leaves : List ℕ → ℕ → ℤ → ℕ → Bool → Type 0
-Leaves part end z next b =
-    let m = get_or part end 0 in
-    (b ≡ eqb (cond (eqb m 0) 0 (remainder_of z m)) (get_or part (end + 1) 0)) × (next ≡ end + 2)
+-- a sum z leaves the second word on division by the first, and nothing on division by 0; the words after the two
+abbrev pub Leaves : List ℕ → ℤ → (rest : List ℕ) → Bool → Type 0
+Leaves words z rest b =
+    let m = get_or words 0 0 in
+    (b ≡ cond (eqb m 0) false (eqb (remainder_of z m) (get_or words 1 0))) × (rest ≡ drop 2 words)
 
 -- ---- steps
 
@@ -63,16 +72,18 @@ pub record Truths (set : ℕ) (earlier : List Bool) : Type 0 where
   pub fits : set < 2 ^ 64
   pub same : (i : ℕ) → bit set i ≡ get_or earlier i false
 
--- a step whose words begin at word `from`; the place past them, and whether it holds
-pub record StepFrom (part : List ℕ) (from : ℕ) : Type 0 where
+-- words that begin with those of a step, and the words after it
+pub record StepFirst (words : List ℕ) : Type 0 where
   pub states : ℕ
   pub number : ℕ
   pub step : Step
-  pub next : ℕ
+  pub rest : List ℕ
   pub few_states : states ≤ 64
   pub in_range : StepInRange states number step
-  pub stands : WordsAt part from next (step_words states step)
+  pub coded : words ≡ step_words states step ++ rest
 
-abbrev pub StepSays : List ℕ → ℕ → List ℕ → ℕ → ℕ → Bool → Type 0
-StepSays part from counts truths next b = (earlier : List Bool) → Truths truths earlier → (h : StepFrom part from) (w : List ℕ)
-    → Occurs counts w → (next ≡ h.next) × (b ≡ holds w earlier h.step)
+-- the words after the step, and whether it holds
+pub record StepSays (words counts : List ℕ) (truths : ℕ) (rest : List ℕ) (b : Bool) : Type 0 where
+  pub left : (h : StepFirst words) → rest ≡ h.rest
+  pub says : (h : StepFirst words) (earlier : List Bool) → Truths truths earlier → (w : List ℕ) → Occurs counts w
+      → b ≡ holds w earlier h.step

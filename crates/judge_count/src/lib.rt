@@ -1,35 +1,43 @@
 // Count parts: how often each state occurs, signed sums of these numbers, and steps over earlier steps.
 #![tactic(auto)]
 
-ghost use Rattle.std.specs.Prelude.{◌≡◌, ◌+◌, ◌*◌, ◌^◌, ◌<◌, length, get_or, replicate, pos, nat_abs, ◌+ℤ◌, ◌*ℤ◌};
-ghost use Rattle.model.specs.Sheet.{bit};
-ghost use Rattle.judge_order.specs.Order.{StateWords, states_of};
-ghost use Rattle.judge_count.specs.Count.{Occurs, Counts, CountPart, CountSays, SumFrom, Summed, AtMost, Leaves, StepFrom, StepSays};
+ghost use Rattle.std.specs.Prelude.{◌≡◌, ◌+◌, ◌*◌, ◌^◌, ◌<◌, length, replicate, pos, nat_abs, ◌+ℤ◌, ◌*ℤ◌};
+ghost use Rattle.judge_order.specs.Order.{states_of};
+ghost use Rattle.judge_count.specs.Count.{Occurs, FewCounted, CountPart, CountSays, SumFirst, Summed, AtMost, Leaves, StepFirst, StepSays};
 
+use judge_order::Children;
 use layout::{AND, AT_MOST, NOT, OR, REMAINDER};
 
 pub const STATES: usize = 64;
 
-// A sum, and the place after its words.
+// How often each state occurs among the children of an element.
 #[derive(Clone, Copy)]
-struct Sum {
+pub struct Counts<'a> {
+    pub each: &'a [u32],
+    pub ghost few: { FewCounted each.now },
+}
+
+// A sum, and the words after it.
+#[derive(Clone, Copy)]
+struct Sum<'a> {
     total: i32,
-    next: usize,
+    rest: &'a [u32],
 }
 
-// Whether a step holds, and the place after its words.
+// Whether a step holds, and the words after it.
+// kept: holds and rest both say something at each value, since a step that doesn't hold has words after it too
 #[derive(Clone, Copy)]
-struct Step {
+struct Step<'a> {
     holds: bool,
-    next: usize,
+    rest: &'a [u32],
 }
 
-// How often each state occurs among the children with these state words, to counts that are all 0.
-pub fn occurrences(words: &[u32], counts: &mut [u32; STATES])
-    requires { StateWords words.now × (counts.old ≡ replicate 64 0) }
-    ensures { Occurs counts.new (states_of words.now) }
+// How often each state occurs among children, to counts that are all 0.
+pub fn occurrences(children: Children, counts: &mut [u32; STATES])
+    requires { counts.old ≡ replicate 64 0 }
+    ensures { Occurs counts.new (states_of children.entry.words.now) }
 {
-    for word in words {
+    for word in children.words {
         let q = (*word - 1) as usize;
         counts[q] += 1;
     }
@@ -43,104 +51,90 @@ fn plus_times(total: i32, times: i32, count: u32) -> i32
     total + times * (count as i32)
 }
 
-// The sum whose words begin at `from`: the coefficient of each marked state times its occurrences.
-fn sum_at(part: &[u32], from: usize, counts: &[u32]) -> Sum
-    requires part { SumFrom part.now from }
-    requires counts { Counts counts.now }
-    ensures { Summed part.now from counts.now result.next result.total }
-{
-    let mut marks = bits::of_words(part[from], part[from + 1]);
-    let mut at = from + 2;
-    let mut total: i32 = 0;
-    // kept: no index is counted, the lowest mark goes in each pass
-    while marks != 0 {
-        let q = bits::lowest(marks) as usize;
-        total = plus_times(total, bits::signed(part[at]), counts[q]);
-        at += 1;
-        marks = bits::without_lowest(marks);
+impl<'a> Sum<'a> {
+    // A step of kind 1: a sum is at most the bound after it.
+    fn at_most(&self) -> Step<'a>
+        requires { 0 < length self.now.rest.now }
+        ensures { AtMost self.now.rest.now self.now.total result.rest.now result.holds }
+    {
+        Step {
+            holds: self.total <= self.rest[0].cast_signed(),
+            rest: &self.rest[1..],
+        }
     }
-    Sum { total, next: at }
-}
 
-// kept: the two kinds differ in their test, in its type and in how many words it reads
-// A step of kind 1: a sum is at most the bound after it.
-fn at_most(part: &[u32], sum: Sum) -> Step
-    requires { sum.next < length part.now }
-    ensures { AtMost part.now sum.next sum.total result.next result.holds }
-{
-    let end = sum.next;
-    let total = sum.total;
-    let bound = bits::signed(part[end]);
-    Step {
-        holds: total <= bound,
-        next: end + 1,
+    // A step of kind 2: a sum leaves a remainder on division by a modulus, which are after it.
+    fn remainder(&self) -> Step<'a>
+        requires { 1 < length self.now.rest.now }
+        ensures { Leaves self.now.rest.now self.now.total result.rest.now result.holds }
+    {
+        Step {
+            holds: bits::remainder(self.total, self.rest[0]) == Some(self.rest[1]),
+            rest: &self.rest[2..],
+        }
     }
 }
 
-// A step of kind 2: a sum leaves a remainder on division by a modulus, which are after it.
-fn remainder(part: &[u32], sum: Sum) -> Step
-    requires { sum.next + 1 < length part.now }
-    ensures { Leaves part.now sum.next sum.total result.next result.holds }
-{
-    let end = sum.next;
-    let rest = bits::remainder(sum.total, part[end]);
-    Step {
-        holds: rest == part[end + 1],
-        next: end + 2,
+impl Counts<'_> {
+    // The sum whose words come first: the coefficient of each marked state times its occurrences.
+    fn sum<'w>(&self, words: &'w [u32]) -> Sum<'w>
+        requires { SumFirst words.now }
+        ensures { Summed words.now self.now.each.now result.rest.now result.total }
+    {
+        let marks = bits::of_words(words[0], words[1]);
+        let mut rest = &words[2..];
+        let mut total: i32 = 0;
+        for q in bits::members(marks) {
+            let times = rest[0].cast_signed();
+            total = plus_times(total, times, self.each[q as usize]);
+            rest = &rest[1..];
+        }
+        Sum { total, rest }
     }
-}
 
-// Whether the earlier step holds whose number is at `at`.
-fn truth_at(part: &[u32], at: usize, truths: u64) -> bool
-    requires { at < length part.now }
-    ensures { result ≡ bit truths (get_or part.now at 0) }
-{
-    bits::has(truths, part[at])
-}
-
-// The step whose words begin at `at`, by its kind; bit i of `truths` says whether step i holds.
-fn step_at(part: &[u32], at: usize, counts: &[u32], truths: u64) -> Step
-    requires part { StepFrom part.now at }
-    requires counts { Counts counts.now }
-    ensures { StepSays part.now at counts.now truths result.next result.holds }
-{
-    let kind = part[at];
-    match kind {
-        AT_MOST => at_most(part, sum_at(part, at + 1, counts)),
-        REMAINDER => remainder(part, sum_at(part, at + 1, counts)),
-        NOT => Step {
-            holds: !truth_at(part, at + 1, truths),
-            next: at + 2,
-        },
-        AND => Step {
-            holds: truth_at(part, at + 1, truths) & truth_at(part, at + 2, truths),
-            next: at + 3,
-        },
-        OR => Step {
-            holds: truth_at(part, at + 1, truths) | truth_at(part, at + 2, truths),
-            next: at + 3,
-        },
-        // no other kind passes the check of a sheet
-        _ => Step {
-            holds: false,
-            next: at,
-        },
+    // The step whose words come first, by its kind; bit i of `truths` says whether step i holds.
+    #[tactic(auto, using(crate::proofs::StepLaws::step_rooms))]
+    fn step<'w>(&self, words: &'w [u32], truths: u64) -> Step<'w>
+        requires { StepFirst words.now }
+        ensures { StepSays words.now self.now.each.now truths result.rest.now result.holds }
+    {
+        // kept: document 01's form, a match over step kinds
+        match words[0] {
+            AT_MOST => self.sum(&words[1..]).at_most(),
+            REMAINDER => self.sum(&words[1..]).remainder(),
+            NOT => Step {
+                holds: !bits::has(truths, words[1]),
+                rest: &words[2..],
+            },
+            AND => Step {
+                holds: bits::has(truths, words[1]) & bits::has(truths, words[2]),
+                rest: &words[3..],
+            },
+            OR => Step {
+                holds: bits::has(truths, words[1]) | bits::has(truths, words[2]),
+                rest: &words[3..],
+            },
+            // no other kind passes the check of a sheet
+            _ => Step {
+                holds: false,
+                rest: words,
+            },
+        }
     }
-}
 
-// Whether children whose states occur so often fit a count part: the last step decides.
-pub fn count_fits(part: &[u32], counts: &[u32]) -> bool
-    requires part { CountPart part.now }
-    requires counts { Counts counts.now }
-    ensures { CountSays part.now counts.now result }
-{
-    let steps = part[0];
-    let mut truths: u64 = 0;
-    let mut at: usize = 1;
-    for i in 0..steps {
-        let s = step_at(part, at, counts, truths);
-        truths = bits::with_if(s.holds, truths, i);
-        at = s.next;
+    // Whether children whose states occur so often fit a count part: the last step decides.
+    pub fn fit(&self, part: &[u32]) -> bool
+        requires { CountPart part.now }
+        ensures { CountSays part.now self.now.each.now result }
+    {
+        let steps = part[0];
+        let mut rest = &part[1..];
+        let mut truths: u64 = 0;
+        for i in 0..steps {
+            let step = self.step(rest, truths);
+            truths = bits::with_if(step.holds, truths, i);
+            rest = step.rest;
+        }
+        bits::has(truths, steps - 1)
     }
-    bits::has(truths, steps - 1)
 }

@@ -1,2 +1,3 @@
 pub mod NodeLaws
+mod ChildLaws
 mod InsideLaws

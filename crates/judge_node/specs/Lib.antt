@@ -1,2 +1,4 @@
 pub mod Node
 pub mod Judging
+pub mod ChildWords
+pub mod Found

@@ -1,5 +1,5 @@
 -- A node of a tree, as its words tell it: its children's state words, and what the run makes of it.
-use Rattle.std.specs.Prelude.{◌≡◌, cond, List, [], ◌∷◌, ℕ, zero, suc, ◌+◌, ◌-◌, ◌*◌, ◌≤◌, ◌<◌, ltb, length, drop}
+use Rattle.std.specs.Prelude.{◌≡◌, cond, List, [], ◌∷◌, ℕ, zero, suc, ◌+◌, ◌-◌, ◌*◌, ◌≤◌, ◌<◌, ltb, length, get_or, drop}
 use Rattle.std.proofs.Math.Option.{Option, none, some}
 use Rattle.model.specs.Tree.{symbol_at, size_at}
 use Rattle.model.specs.Sheet.{Rule}
@@ -24,10 +24,9 @@ pub record Shaped (tree : List ℕ) (n : ℕ) : Type 0 where
   pub symbols : (i : ℕ) → i < n → (1 ≤ symbol_at tree i) × (symbol_at tree i ≤ 66)
   pub sizes : Sizes tree
 
--- state words: at most 64 states, and 0
-abbrev pub Small : List ℕ → Type 0
-Small [] = Unit {0}
-Small (x ∷ l) = (x ≤ 64) × Small l
+-- the state words of the nodes from i on: at most 64 states, and 0
+pub record Small (i : ℕ) (states : List ℕ) : Type 0 where
+  pub each : (k : ℕ) → i ≤ k → get_or states k 0 ≤ 64
 
 -- the state words of the elements side by side from node `first` up to node `end`
 abbrev pub words_between : (tree states : List ℕ) (first end : ℕ) → List ℕ
@@ -36,10 +35,6 @@ words_between tree states first end = child_words (end - first) 0 (drop first (i
 -- those of the children of node i
 abbrev pub words_inside : (tree states : List ℕ) (i : ℕ) → List ℕ
 words_inside tree states i = words_between tree states (i + 1) (i + size_at tree i)
-
--- node i has more than one child
-abbrev pub Several : (tree : List ℕ) (i : ℕ) → Type 0
-Several tree i = i + 1 + size_at tree (i + 1) < i + size_at tree i
 
 -- the states that content of one child reaches, by that child's state word: its state, if it has one
 abbrev pub lone_states : ℕ → List ℕ

@@ -6,28 +6,31 @@ use mathlib.Core.Bool.{Bool, true, false, cond, ◌&&◌, ◌||◌, and-false}
 use mathlib.Core.List.{List, [], ◌∷◌, flat_map}
 use mathlib.Core.Option.{none, some}
 use mathlib.Core.Logic.{◌≢◌}
-use Prim.Native.Nat.{ℕ, zero, suc, ◌+◌, ◌%◌, ◌^◌, ◌≤◌, ◌<◌, ◌-◌, ◌/◌}
-use native.Mathlib.Numerals.{add-one}
+use Prim.Native.Nat.{ℕ, zero, suc, ◌+◌, ◌≤◌, ◌<◌}
 use native.Mathlib.Omega.{arith}
 use lib.Dec.{eqb}
-use lib.ListN.{length, get_or, drop, drop_of_length-le}
-use lib.Seq.{drop-cons}
+use lib.ListN.{length, get_or}
 use Rattle.model.specs.Bytes.{text_kind}
 use Rattle.model.specs.declared.TextKind.{TextKind}
 use Rattle.model.specs.declared.TextKind.TheVariants.{Integer, Other}
 use Rattle.model.specs.Sheet.{Rule, one, two, three, mask, bit, rule_words}
 use Rattle.model.specs.Run.{kind, of_kind, at_text, at_tag}
 use Rattle.model.specs.Spans.{RuleAt, counted}
-use Rattle.model.specs.Index.{rules_in, nth, Indexed, sheet_in, key}
+use Rattle.model.specs.Index.{rules_in, nth, Indexed, key}
 use Rattle.model.specs.Lists.{has, only}
-use Rattle.model.proofs.PassedLaws.{in_range, rules-word}
+use Rattle.model.proofs.PassedLaws.{in_range}
 use Rattle.model.proofs.RuleWords.{text_key, tag_key, content-map}
-use Rattle.model.proofs.IndexLaws.{index-room, rule-here, chain_first, chain_next, chain_few}
 use Rattle.model.proofs.Tests.{eqb_yes, eqb-false}
 use Rattle.model.proofs.PartLaws.{word-within, word-is}
 use Rattle.bits.specs.Stands.{Stands}
 use Rattle.bits.proofs.SetLaws.{none_stands, stands_none, stands-some, Gathers, gathers_none, gathers_more, gathers_all}
-use Rattle.judge_rules.specs.Rules.{with_count, of_count, Ruled, RulesOf, at_tag_with}
+use Rattle.indexed.specs.declared.Spot.{Spot}
+use Rattle.indexed.specs.declared.Chain.{Chain}
+use Rattle.indexed.specs.Rules.{rule_of}
+use Rattle.indexed.specs.Walks.{with_key, chain_left, ChainNext}
+use Rattle.indexed.proofs.SpotLaws.{stands}
+use Rattle.indexed.proofs.WalkLaws.{with_key-all}
+use Rattle.judge_rules.specs.Rules.{with_count, of_count, RulesOf, at_tag_with}
 use Rattle.judge_rules.specs.Found.{TagFinds}
 use Rattle.judge_rules.specs.declared.numbers.Rules.{Rules}
 use Rattle.judge_rules.specs.declared.targets.Found.{Found}
@@ -55,122 +58,100 @@ count-some (r ∷ R) zero l e = rw e (omega arith)
 count-some (r ∷ R) (suc i) l e = omega (arith, count-some R i (omega arith) e)
 
 -- a flag as a number
-one_if : (b : Bool) {n : ℕ} → n ≡ from_bool b → (n ≡ cond b 1 0) × (n ≤ 1)
+pub one_if : (b : Bool) {n : ℕ} → n ≡ from_bool b → (n ≡ cond b 1 0) × (n ≤ 1)
 one_if true e = (e, omega arith)
 one_if false e = (e, omega arith)
 
--- the numbers so far, with those of the rules from the i-th on, make all
-pub record Numbering (s index : List ℕ) (number ones twos counts i : ℕ) : Type 0 where
-  pub ruled : Ruled s index number
-  pub texts : ones + of_kind 1 (drop i (rules_in s)) ≡ of_kind 1 (rules_in s)
-  pub tags : twos + of_kind 2 (drop i (rules_in s)) ≡ of_kind 2 (rules_in s)
-  pub counting : counts + of_count (drop i (rules_in s)) ≡ of_count (rules_in s)
-  pub few : (i ≤ number) × (ones ≤ i) × (twos ≤ i) × (counts ≤ i)
+at_most_one : (b : Bool) → cond b 1 0 ≤ 1
+at_most_one true = omega arith
+at_most_one false = omega arith
 
-pub numbering_none : {s index : List ℕ} {number : ℕ} → Indexed s index → number ≡ get_or s 5 0 → Numbering s index number 0 0 0 0
-numbering_none {s} {index} {number = number} h en =
-    let all : number ≡ length (rules_in s) = omega (arith, rules-word h.sheet) in
-    let few = (in_range h.sheet).few_rules in
-    let ruled : Ruled s index number = record { indexed = h; all = all; room = omega (arith, index-room h); few = omega arith } in
-    record { ruled = ruled; texts = omega arith; tags = omega arith; counting = omega arith; few = omega arith }
+-- rules of one kind, or with a count part, are among all
+kind_few : (k : ℕ) (R : List Rule) → of_kind k R ≤ length R
+unfolding of_kind
+kind_few k [] = omega arith
+kind_few k (r ∷ R) = omega (arith, at_most_one (eqb (kind r) k), kind_few k R)
 
-module _ {s index : List ℕ} {number ones twos counts i : ℕ} (g : Numbering s index number ones twos counts i) where
+count_few : (R : List Rule) → of_count R ≤ length R
+unfolding of_count
+count_few [] = omega arith
+count_few (r ∷ R) = omega (arith, at_most_one (with_count r), count_few R)
+
+-- the numbers so far, with those of the rules that are left, make all
+pub record Numbering (R left : List Rule) (ones twos counts : ℕ) : Type 0 where
+  pub all : length R ≤ 1024
+  pub texts : ones + of_kind 1 left ≡ of_kind 1 R
+  pub tags : twos + of_kind 2 left ≡ of_kind 2 R
+  pub counting : counts + of_count left ≡ of_count R
+
+pub numbering_none : {s index : List ℕ} → Indexed s index → Numbering (rules_in s) (rules_in s) 0 0 0
+numbering_none h = record { all = (in_range h.sheet).few_rules; texts = omega arith; tags = omega arith; counting = omega arith }
+
+module _ {R left : List Rule} {ones twos counts : ℕ} (g : Numbering R left ones twos counts) where
+  pub numbering_few : (ones ≤ 1024) × (twos ≤ 1024) × (counts ≤ 1024)
+  numbering_few = (
+    omega (arith, g.all, g.texts, kind_few 1 R),
+    omega (arith, g.all, g.tags, kind_few 2 R),
+    omega (arith, g.all, g.counting, count_few R),
+  )
+
   -- the rule in hand, before the others
-  pub numbering_more : i < number → {word begin map one two three : ℕ} {b : Bool} → word ≡ get_or index (67 + i) 0 → begin ≡ word % 2 ^ 16
-      → map ≡ get_or s begin 0 → one ≡ from_bool (eqb map 33) → two ≡ from_bool (eqb map 38) → b ≡ counted map
-      → three ≡ from_bool b → Numbering s index number (ones + one) (twos + two) (counts + three) (i + 1)
+  pub numbering_more : (x : Spot) {rest : List Rule} → left ≡ rule_of x ∷ rest → {map one two three : ℕ} {b : Bool}
+      → map ≡ get_or x.sheet.words.now x.at 0 → one ≡ from_bool (eqb map 33) → two ≡ from_bool (eqb map 38) → b ≡ counted map
+      → three ≡ from_bool b → Numbering R rest (ones + one) (twos + two) (counts + three)
   unfolding of_kind of_count
-  numbering_more l {map = map} {b = b} ew eb em d₁ d₂ ec d₃ =
+  numbering_more x e {map = map} {b = b} em d₁ d₂ ec d₃ =
       let (e₁, f₁) = one_if (eqb map 33) d₁ in
       let (e₂, f₂) = one_if (eqb map 38) d₂ in
       let (e₃, f₃) = one_if b d₃ in
-      let R = rules_in s in
-      let inside : i < length R = omega (arith, g.ruled.all) in
-      let k : Kinds map (nth R i) = rw (em, eb) (kinds (nth R i) (rule-here g.ruled.indexed inside ew)) in
-      let split : drop i R ≡ nth R i ∷ drop (i + 1) R = rw (add-one i) (drop-cons R i (Rule.one 0 0) inside) in
+      let k : Kinds map (rule_of x) = rw em (kinds (rule_of x) (stands x).begins) in
       record {
-        ruled = g.ruled;
-        texts = omega (arith, rw split at g.texts, rw k.text at e₁);
-        tags = omega (arith, rw split at g.tags, rw k.tag at e₂);
-        counting = omega (arith, rw split at g.counting, rw (ec, k.count) at e₃);
-        few = omega (arith, g.few);
+        all = g.all;
+        texts = omega (arith, rw e at g.texts, rw k.text at e₁);
+        tags = omega (arith, rw e at g.tags, rw k.tag at e₂);
+        counting = omega (arith, rw e at g.counting, rw (ec, k.count) at e₃);
       }
 
-  pub numbering_all : number ≤ i → RulesOf s index (record { number = number; ones = ones; twos = twos; counted = counts })
+  pub numbering_all : left ≡ [] → RulesOf R (record { ones = ones; twos = twos; counted = counts })
   unfolding of_kind of_count
-  numbering_all l =
-      let none = drop_of_length-le (rules_in s) {i = i} (omega (arith, g.ruled.all)) in
+  numbering_all e =
       record {
-        ruled = g.ruled;
-        texts = omega (arith, rw none at g.texts);
-        tags = omega (arith, rw none at g.tags);
-        counts = omega (arith, rw none at g.counting);
-        few = omega (arith, g.few);
+        texts = omega (arith, rw e at g.texts);
+        tags = omega (arith, rw e at g.tags);
+        counts = omega (arith, rw e at g.counting);
+        few = omega (arith, numbering_few);
       }
 
 -- ---- along a chain
 
--- What the rules from the i-th on add to a set makes what all of them give; and the i-th has key k.
-pub record OnChain (f : Rule → List ℕ) (k : ℕ) (R : List Rule) (i set : ℕ) : Type 0 where
-  pub adding : Gathers set (flat_map f (drop i R)) (flat_map f R)
-  pub keyed : i < length R → key (nth R i) ≡ k
-
-module _ {s index : List ℕ} {rules : ℕ} (h : Ruled s index rules) where
-  -- a chain ascends
-  pub chain_less : {i word next : ℕ} → i < rules → word ≡ get_or index (67 + i) 0 → next ≡ word / 2 ^ 16 → (i < next) × (next ≤ rules)
-  chain_less l ew en = rw h.all (chain_few h.indexed (omega arith) (en ∙ ap (λ (w : ℕ). w / 2 ^ 16) ew))
-
-  pub chain_nearer : {i word next : ℕ} → i < rules → word ≡ get_or index (67 + i) 0 → next ≡ word / 2 ^ 16 → rules - next < rules - i
-  chain_nearer l ew en = omega (arith, chain_less l ew en)
-
-  -- the rule that an entry tells of, over at most 64 states
-  pub rule-begins : {i word begin : ℕ} → i < rules → word ≡ get_or index (67 + i) 0 → begin ≡ word % 2 ^ 16
-      → RuleAt (sheet_in s).states s begin (nth (rules_in s) i)
-  rule-begins l ew eb = rw eb (rule-here h.indexed (omega arith) ew)
-
-  module _ (f : Rule → List ℕ) {k : ℕ} (apart : (x : Rule) → key x ≢ k → f x ≡ []) where
-    pub chain_begun : {i : ℕ} → k < 67 → i ≡ get_or index k 0 → OnChain f k (rules_in s) i 0
-    chain_begun l e =
-        let (all, there) = chain_first h.indexed f apart l e in
-        record { adding = rw (← all) (gathers_none (flat_map f (rules_in s))); keyed = there }
-
-    -- the i-th rule gives its target q where a test holds
-    pub chain_added : {i set word next q r : ℕ} → OnChain f k (rules_in s) i set → i < rules → word ≡ get_or index (67 + i) 0
-        → next ≡ word / 2 ^ 16 → (flag : Bool) → f (nth (rules_in s) i) ≡ only flag q → q < 64
-        → r ≡ mask 64 (λ j. bit set j || (flag && eqb j q)) → OnChain f k (rules_in s) next r
-    chain_added {i} {q = q} g l ew en flag e small m =
-        let inside : i < length (rules_in s) = omega arith in
-        let (more, there) = chain_next h.indexed f apart inside (g.keyed inside) (en ∙ ap (λ (w : ℕ). w / 2 ^ 16) ew) in
-        record { adding = gathers_more flag q small m (rw (more, e) at g.adding); keyed = there }
-
-  pub chain_ended : {f : Rule → List ℕ} {k i set : ℕ} → OnChain f k (rules_in s) i set → rules ≤ i → Stands set (flat_map f (rules_in s))
-  unfolding flat_map
-  chain_ended {i = i} g l = gathers_all (rw (drop_of_length-le (rules_in s) {i = i} (omega arith)) at g.adding)
+-- What the rules that are left on the chain of a key add to a set makes what all of some rules give.
+pub record OnChain (f : Rule → List ℕ) (k : ℕ) (R : List Rule) (c : Chain) (set : ℕ) : Type 0 where
+  pub keyed : c.key ≡ k
+  pub adding : Gathers set (flat_map f (chain_left c)) (flat_map f R)
 
 -- ---- rules of kinds one and two
 
--- Rules of key k give a target, word w of the rule, where a test on the place of the rule holds. Others give nothing.
-pub record Targets (s : List ℕ) (f : Rule → List ℕ) (k w : ℕ) (flag : ℕ → Bool) : Type 0 where
-  pub key-small : k < 67
+-- Rules of key k give a target, word w of the rule, where a test on the words and the place of the rule holds. Others give nothing.
+pub record Targets (f : Rule → List ℕ) (k w : ℕ) (flag : List ℕ → ℕ → Bool) : Type 0 where
   pub apart : (x : Rule) → key x ≢ k → f x ≡ []
-  pub gives : {p a : ℕ} (x : Rule) → p ≤ 64 → RuleAt p s a x → key x ≡ k → (f x ≡ only (flag a) (get_or s (a + w) 0)) ×
-      (a + w < length s) × (get_or s (a + w) 0 < 64)
+  pub gives : {p a : ℕ} {s : List ℕ} (x : Rule) → p ≤ 64 → RuleAt p s a x → key x ≡ k
+      → (f x ≡ only (flag s a) (get_or s (a + w) 0)) × (a + w < length s) × (get_or s (a + w) 0 < 64)
 
 -- a kind of text has number 1 or 2
-kind_few : (text : TextKind) → (1 ≤ text_kind text) × (text_kind text ≤ 2)
-kind_few Integer = omega arith
-kind_few Other = omega arith
+text_few : (text : TextKind) → (1 ≤ text_kind text) × (text_kind text ≤ 2)
+text_few Integer = omega arith
+text_few Other = omega arith
 
-of_kind-rules : {s : List ℕ} {kind : ℕ} → (1 ≤ kind) × (kind ≤ 2) → Targets s (at_text kind) kind 2 (λ a. true)
+of_kind-rules : {kind : ℕ} → (1 ≤ kind) × (kind ≤ 2) → Targets (at_text kind) kind 2 (λ s a. true)
 unfolding at_text key only rule_words
-of_kind-rules {s} {kind} few = record { key-small = omega arith; apart = apart; gives = gives }
+of_kind-rules {kind} few = record { apart = apart; gives = gives }
   where
     apart : (x : Rule) → key x ≢ kind → at_text kind x ≡ []
     apart (one j q) d = rw (eqb-false {m = j} {n = kind} d)
     apart (two b c q) d = refl
     apart (three o c q) d = refl
 
-    gives : {p a : ℕ} (x : Rule) → p ≤ 64 → RuleAt p s a x → key x ≡ kind → (at_text kind x ≡ only true (get_or s (a + 2) 0)) ×
+    gives : {p a : ℕ} {s : List ℕ} (x : Rule) → p ≤ 64 → RuleAt p s a x → key x ≡ kind → (at_text kind x ≡ only true (get_or s (a + 2) 0)) ×
         (a + 2 < length s) × (get_or s (a + 2) 0 < 64)
     gives (one j q) l h e =
         let target = word-is h.there 2 (omega arith) in
@@ -178,20 +159,19 @@ of_kind-rules {s} {kind} few = record { key-small = omega arith; apart = apart; 
     gives (two b c q) l h e = absurd (omega (arith, h.ranges))
     gives (three o c q) l h e = absurd (omega arith)
 
-pub text_rules : {s : List ℕ} (text : TextKind) → Targets s (at_text (text_kind text)) (text_kind text) 2 (λ a. true)
-text_rules text = of_kind-rules (kind_few text)
+pub text_rules : (text : TextKind) → Targets (at_text (text_kind text)) (text_kind text) 2 (λ s a. true)
+text_rules text = of_kind-rules (text_few text)
 
-pub tag_rules : {s : List ℕ} {tag : ℕ} (inner : ℕ) → (1 ≤ tag) × (tag ≤ 64)
-    → Targets s (at_tag_with tag inner) (2 + tag) 3 (λ a. bit inner (get_or s (a + 2) 0))
+pub tag_rules : {tag : ℕ} (inner : ℕ) → 1 ≤ tag → Targets (at_tag_with tag inner) (2 + tag) 3 (λ s a. bit inner (get_or s (a + 2) 0))
 unfolding at_tag_with key only rule_words
-tag_rules {s} {tag} inner few = record { key-small = omega arith; apart = apart; gives = gives }
+tag_rules {tag} inner low = record { apart = apart; gives = gives }
   where
     apart : (x : Rule) → key x ≢ 2 + tag → at_tag_with tag inner x ≡ []
     apart (one j q) d = refl
     apart (two b c q) d = rw (eqb-false {m = b} {n = tag} (λ e. d (ap (λ (n : ℕ). 2 + n) e)))
     apart (three o c q) d = refl
 
-    gives : {p a : ℕ} (x : Rule) → p ≤ 64 → RuleAt p s a x → key x ≡ 2 + tag
+    gives : {p a : ℕ} {s : List ℕ} (x : Rule) → p ≤ 64 → RuleAt p s a x → key x ≡ 2 + tag
         → (at_tag_with tag inner x ≡ only (bit inner (get_or s (a + 2) 0)) (get_or s (a + 3) 0)) × (a + 3 < length s) ×
         (get_or s (a + 3) 0 < 64)
     gives (one j q) l h e = absurd (omega (arith, h.ranges))
@@ -210,22 +190,31 @@ tags_with tag h (one j q ∷ R) = tags_with tag h R
 tags_with tag h (two b c q ∷ R) = rw (h.same c, tags_with tag h R)
 tags_with tag h (three o c q ∷ R) = tags_with tag h R
 
-module _ {s index : List ℕ} {rules : ℕ} (h : Ruled s index rules) {f : Rule → List ℕ} {k w : ℕ} {flag : ℕ → Bool}
-    (t : Targets s f k w flag) where
-  pub targets_begun : {at i : ℕ} → at ≡ k → i ≡ get_or index at 0 → OnChain f k (rules_in s) i 0
-  targets_begun ea ei = chain_begun h f t.apart t.key-small (rw (← ea) ei)
+module _ {f : Rule → List ℕ} {k w : ℕ} {flag : List ℕ → ℕ → Bool} (t : Targets f k w flag) (R : List Rule) where
+  pub chain_begun : {c : Chain} {n : ℕ} → n ≡ k → c.key ≡ n → chain_left c ≡ with_key n R → OnChain f k R c 0
+  chain_begun en ec e = record { keyed = ec ∙ en; adding = rw (e, en, with_key-all f t.apart R) (gathers_none (flat_map f R)) }
 
-  module _ {i set word begin : ℕ} (g : OnChain f k (rules_in s) i set) (l : i < rules) (ew : word ≡ get_or index (67 + i) 0)
-      (eb : begin ≡ word % 2 ^ 16) where
-    here : (f (nth (rules_in s) i) ≡ only (flag begin) (get_or s (begin + w) 0)) × (begin + w < length s) × (get_or s (begin + w) 0 < 64)
-    here = t.gives (nth (rules_in s) i) (in_range h.indexed.sheet).few_states (rule-begins h l ew eb) (g.keyed (omega arith))
+  module _ {c d : Chain} {set : ℕ} (g : OnChain f k R c set) (x : Spot) (next : ChainNext c x d) where
+    abbrev s : List ℕ
+    s = x.sheet.words.now
 
-    pub target_room : begin + w < length s
+    here : (f (rule_of x) ≡ only (flag s x.at) (get_or s (x.at + w) 0)) × (x.at + w < length s) × (get_or s (x.at + w) 0 < 64)
+    here = t.gives (rule_of x) (in_range x.sheet.indexed.sheet).few_states (stands x).begins (next.has_key ∙ g.keyed)
+
+    pub target_room : x.at + w < length s
     target_room = here.1
 
-    pub target-added : {next r : ℕ} → next ≡ word / 2 ^ 16 → r ≡ mask 64 (λ j. bit set j || (flag begin && eqb j (get_or s (begin + w) 0)))
-        → OnChain f k (rules_in s) next r
-    target-added en m = chain_added h f t.apart g l ew en (flag begin) here.0 here.2 m
+    pub target-added : {r : ℕ} → r ≡ mask 64 (λ j. bit set j || (flag s x.at && eqb j (get_or s (x.at + w) 0))) → OnChain f k R d r
+    unfolding flat_map
+    target-added m = record {
+      keyed = next.same_key ∙ g.keyed;
+      adding = gathers_more (flag s x.at) _ here.2 m (rw (next.rule, here.0) at g.adding);
+    }
+
+pub chain_ended : {f : Rule → List ℕ} {k : ℕ} {R : List Rule} {c : Chain} {set : ℕ} → OnChain f k R c set → chain_left c ≡ []
+    → Stands set (flat_map f R)
+unfolding flat_map
+chain_ended g e = gathers_all (rw e at g.adding)
 
 -- ---- an element, by what its content reaches
 
@@ -237,27 +226,27 @@ no_tag a (one k q ∷ R) = no_tag a R
 no_tag a (two b c q ∷ R) = rw (and-false (eqb b a)) (no_tag a R)
 no_tag a (three o c q ∷ R) = no_tag a R
 
-module _ {s index : List ℕ} {r : Rules} (k : RulesOf s index r) where
+module _ {R : List Rule} {r : Rules} (k : RulesOf R r) where
   -- the content reaches no state
-  pub tagged_unreached : (tag : ℕ) {inside : Found} → inside.targets ≡ 0 → TagFinds (rules_in s) tag inside
+  pub tagged_unreached : (tag : ℕ) {inside : Found} → inside.targets ≡ 0 → TagFinds R tag inside
       (record { targets = 0; looks = inside.looks })
   tagged_unreached tag e = record {
     found = λ l n f.
         let none = stands_none f.reached e in
-        rw (none, no_tag tag (rules_in s))
+        rw (none, no_tag tag R)
         (record { reached = none_stands; number = omega (arith, f.number); few = omega (arith, f.few) });
   }
 
   -- it reaches some
   pub tagged-reached : {tag targets : ℕ} {inside : Found} → inside.targets ≢ 0
-      → Stands targets (flat_map (at_tag_with tag inside.targets) (rules_in s))
-      → TagFinds (rules_in s) tag inside (record { targets = targets; looks = inside.looks + r.twos })
+      → Stands targets (flat_map (at_tag_with tag inside.targets) R)
+      → TagFinds R tag inside (record { targets = targets; looks = inside.looks + r.twos })
   tagged-reached {tag} some-state reach = record {
     found = λ l n f.
         let (x, xs, e) = stands-some f.reached some-state in
         record {
-          reached = rw (tags_with tag f.reached (rules_in s)) at reach;
+          reached = rw (tags_with tag f.reached R) at reach;
           number = rw e (omega (arith, f.number, k.tags));
-          few = omega (arith, f.few, k.few, k.ruled.few);
+          few = omega (arith, f.few, k.few);
         };
   }

@@ -1,10 +1,9 @@
 -- The rules of a sheet: how many there are, and what one of them gives.
-use Rattle.std.specs.Prelude.{◌≡◌, Bool, true, false, cond, ◌&&◌, ◌||◌, List, [], ◌∷◌, ℕ, ◌+◌, ◌≤◌, ◌<◌, eqb, length, get_or}
+use Rattle.std.specs.Prelude.{◌≡◌, Bool, true, false, cond, ◌&&◌, ◌||◌, List, [], ◌∷◌, ℕ, ◌+◌, ◌≤◌, eqb, get_or}
 use Rattle.std.proofs.Math.Option.{none, some}
 use Rattle.model.specs.Lists.{only}
 use Rattle.model.specs.Sheet.{Rule, one, two, three, bit, mask}
 use Rattle.model.specs.Run.{of_kind}
-use Rattle.model.specs.Index.{rules_in, Indexed}
 use Rattle.judge_rules.specs.declared.numbers.Rules.{Rules}
 
 -- ---- numbers of rules
@@ -20,20 +19,12 @@ unfoldable pub of_count : List Rule → ℕ
 of_count [] = 0
 of_count (r ∷ R) = cond (with_count r) 1 0 + of_count R
 
--- a sheet with its index, in which each of its rules has an entry, and their number
-pub record Ruled (s index : List ℕ) (number : ℕ) : Type 0 where
-  pub indexed : Indexed s index
-  pub all : number ≡ length (rules_in s)
-  pub room : 67 + number < length index
-  pub few : number ≤ 1024
-
--- the numbers of its rules, by kind
-pub record RulesOf (s index : List ℕ) (r : Rules) : Type 0 where
-  pub ruled : Ruled s index r.number
-  pub texts : r.ones ≡ of_kind 1 (rules_in s)
-  pub tags : r.twos ≡ of_kind 2 (rules_in s)
-  pub counts : r.counted ≡ of_count (rules_in s)
-  pub few : (r.ones ≤ r.number) × (r.twos ≤ r.number)
+-- the numbers of these rules, by kind
+pub record RulesOf (R : List Rule) (r : Rules) : Type 0 where
+  pub texts : r.ones ≡ of_kind 1 R
+  pub tags : r.twos ≡ of_kind 2 R
+  pub counts : r.counted ≡ of_count R
+  pub few : (r.ones ≤ 1024) × (r.twos ≤ 1024)
 
 -- ---- rules of kind two
 

@@ -1,12 +1,13 @@
 -- The run's loop over the nodes of a form, and its outcome by its case.
 use mathlib.Core.Path.{◌≡◌, refl, ◌∙◌, subst}
-use mathlib.Core.Logic.{◌≢◌}
+use mathlib.Core.Logic.{by_cases}
 use mathlib.Core.List.{List, [], ◌∷◌}
 use Prim.Native.Nat.{ℕ, zero, suc, ◌+◌, ◌-◌, ◌*◌, ◌^◌, ◌≤◌, ◌<◌}
+use native.Mathlib.Decide.{dec_le}
 use native.Mathlib.Nat.{zero-add, mul-le-mul_right}
 use native.Mathlib.Omega.{arith}
-use lib.ListN.{length, drop, set, length-set, drop_of_length-le}
-use lib.Seq.{drop-cons, drop-set-lt, get_or-set_same, drop-length}
+use lib.ListN.{length, get_or, get_or-eq_default, drop, set, length-set, drop_of_length-le}
+use lib.Seq.{drop-cons, drop-set-lt, get_or-set_same, get_or-set_other, drop-length}
 use mir.Syntax.{w32}
 use mir.Val.{Fits}
 use Rattle.std.specs.Prelude.{Ok, Err, Option, None, Some}
@@ -17,14 +18,16 @@ use Rattle.model.specs.Sheet.{Rule}
 use Rattle.model.specs.Run.{Reached, nothing, just, several, gist, Item, items, ran, two_at, put, judge_node, run, root_verdict}
 use Rattle.model.specs.Run.{verdict}
 use Rattle.model.specs.Calls.{first_states}
-use Rattle.model.specs.Index.{sheet_in, rules_in, Indexed}
+use Rattle.model.specs.Index.{sheet_in, rules_in}
 use Rattle.model.proofs.TreeLaws.{tree_passes}
 use Rattle.model.proofs.RunLaws.{over_formed, RunSays, run-says}
 use Rattle.model.proofs.PassedLaws.{in_range}
+use Rattle.indexed.specs.declared.IndexedSheet.{IndexedSheet}
 use Rattle.judge_rules.specs.declared.targets.Found.{Found}
 use Rattle.judge_contents.specs.Content.{FindsContent}
 use Rattle.judge_node.specs.Node.{Shaped, Small, node_targets, node_looks}
-use Rattle.judge_node.specs.Judging.{Judging, FindsNode}
+use Rattle.judge_node.specs.Judging.{Judging}
+use Rattle.judge_rules.specs.Found.{Finds}
 use Rattle.judge_node.proofs.NodeLaws.{items_at, tree_shaped, node_judged}
 use Rattle.judge_states.specs.States.{Word, WordOf}
 use Rattle.judge_run.specs.Run.{Form, Ends, verdict_on, states_on}
@@ -50,12 +53,22 @@ two_decides R zero k l h e = rw (zero-add k) e
 two_decides R (suc j) k [] h e = absurd (omega arith)
 two_decides R (suc j) k (x ∷ l) h e = let f : suc (j + k) ≡ suc j + k = omega arith in rw (two_decides R j k l (omega arith) e, ← f)
 
+-- a word of a state or 0 for one node more
+small_set : (states : List ℕ) {i j w : ℕ} → i < length states → suc i ≡ j → Small j states → w ≤ 64 → Small i (set states i w)
+small_set states {i} {w = w} room next later few = record { each = λ k h. by_cases (dec_le k i) (here k h) (there k) }
+  where
+    here : (k : ℕ) → i ≤ k → k ≤ i → get_or (set states i w) k 0 ≤ 64
+    here k h l = let e : k ≡ i = omega arith in rw (e, get_or-set_same states i w 0 room) few
+
+    there : (k : ℕ) → (k ≤ i → ⊥) → get_or (set states i w) k 0 ≤ 64
+    there k n = rw (get_or-set_other states i k w 0 (λ e. n (omega arith))) (later.each k (omega arith))
+
 -- the nodes from i on have their state words, found with these looks
 pub record Running (R : List Rule) (tree : List ℕ) (n i : ℕ) (states : List ℕ) (looks : ℕ) : Type 0 where
   pub shaped : Shaped tree n
   pub within : i ≤ n
   pub long : length states ≡ n
-  pub small : Small (drop i states)
+  pub small : Small i states
   pub so_far : run R (drop i (items tree)) ≡ ran (drop i states) looks
   pub few : looks ≤ (n - i) * 2 ^ 43
 
@@ -67,7 +80,7 @@ running_none R {tree} states t =
       shaped = t;
       within = omega arith;
       long = refl;
-      small = rw (drop-length states) tt;
+      small = record { each = λ k h. rw (get_or-eq_default states 0 {n = k} h) (omega arith) };
       so_far = rw (drop_of_length-le (items tree) {i = length states} (omega (arith, t.all)), drop-length states);
       few = omega arith;
     }
@@ -90,27 +103,21 @@ module _ {R : List Rule} {tree : List ℕ} {n i : ℕ} {states : List ℕ} {look
       (rw e at (node_judged R tree states (i - 1) looks))
 
   -- what its judging asks
-  pub running_judging : {s words : List ℕ} {nothing : Found} → FindsContent (rules_in s) [] nothing → n ≤ length words
-      → Judging s (record { node = i - 1; nothing = nothing }) tree states words
-  running_judging f room =
+  pub running_judging : {s : List ℕ} {nothing : Found} → FindsContent (rules_in s) [] nothing → Judging s nothing states (i - 1)
+  running_judging f =
       let e : i - 1 + 1 ≡ i = omega arith in
-      record {
-        nothing = f;
-        shaped = rw g.long g.shaped;
-        node = omega (arith, g.within, g.long);
-        small = rw e g.small;
-        room = omega (arith, g.long);
-      }
+      record { unlooked = f; within = omega (arith, g.within, g.long); small = rw e g.small }
 
-  module _ {found : Found} {o : Option ℕ} (f : FindsNode R tree states (i - 1) found) (word : WordOf found.targets o) where
+  module _ {found : Found} {o : Option ℕ} (word : WordOf found.targets o)
+      (f : Finds (2 ^ 43) found (node_targets R tree states (i - 1)) (node_looks R tree states (i - 1))) where
     pub running_two : o ≡ None → run R (items tree) ≡ two_at (i - 1)
     running_two e =
         let z : i - 1 + 0 ≡ i - 1 = omega arith in
         let within : i - 1 ≤ length (items tree) = omega (arith, g.shaped.all, g.within) in
         rw z at (two_decides R (i - 1) 0 (items tree) within (judged ∙ put_two reach (word.says _ f.reached) e _ _ _))
 
-    pub running_more : {w : ℕ} → o ≡ Some w → {left : List ℕ} → left ≡ set states (i - 1) w → Running R tree n (i - 1) left (looks + found.looks)
-    running_more {w} d el =
+    pub running_more : {w : ℕ} → o ≡ Some w → Running R tree n (i - 1) (set states (i - 1) w) (looks + found.looks)
+    running_more {w} d =
         let (e, small) = put_word reach (word.says _ f.reached) d (node_looks R tree states (i - 1)) (drop i states) looks in
         let next : suc (i - 1) ≡ i = omega arith in
         let room : i - 1 < length states = omega (arith, g.within, g.long) in
@@ -118,31 +125,34 @@ module _ {R : List Rule} {tree : List ℕ} {n i : ℕ} {states : List ℕ} {look
         let back : drop (i - 1) (set states (i - 1) w) ≡ w ∷ drop i states =
         drop-cons (set states (i - 1) w) (i - 1) 0 (omega (arith, length-set states (i - 1) w))
         ∙ rw (get_or-set_same states (i - 1) w 0 room, next, drop-set-lt i states (i - 1) w (omega arith)) in
-        rw el (record {
+        record {
           shaped = g.shaped;
           within = omega (arith, g.within);
           long = length-set states (i - 1) w ∙ g.long;
-          small = rw back (small, g.small);
+          small = small_set states room next g.small small;
           so_far = rw (back, ← total) (judged ∙ e);
           few = omega (arith, g.few, f.few, g.within);
-        })
+        }
 
 -- ---- the nodes of a form
 
-module _ {s index tree : List ℕ} {n : ℕ} (h : Indexed s index) (f : Form s tree n) where
+module _ (sheet : IndexedSheet) {tree : List ℕ} {n : ℕ} (f : Form sheet.words.now tree n) where
+  abbrev s : List ℕ
+  s = sheet.words.now
+
   pub form-shaped : Shaped tree n
-  form-shaped = rw f.nodes at (tree_shaped (in_range h.sheet).few_tags f.as_tree)
+  form-shaped = rw f.nodes at (tree_shaped (in_range sheet.indexed.sheet).few_tags f.as_tree)
 
   -- looks fit 32 bits
   pub looks_fit : (old left : List ℕ) {x : Answer} {m : ℕ} → Ends s tree old x left → x ≡ Ok m → Fits w32 m
   looks_fit old left {m = m} ends is =
       let e = subst (λ y. Ends s tree old y left) is ends in
       let R = rules_in s in
-      let few_tags = (in_range h.sheet).few_tags in
+      let few_tags = (in_range sheet.indexed.sheet).few_tags in
       let (w, o) = (tree_passes (sheet_in s).tags few_tags tree f.form).0 f.as_tree in
       let formed = over_formed (sheet_in s).tags few_tags f.form o in
-      let says : RunSays R f.form (ran left m) = rw (← w, e) at (run-says (sheet_in s) (in_range h.sheet) f.form formed) in
-      let most = (in_range h.sheet).few_rules in
+      let says : RunSays R f.form (ran left m) = rw (← w, e) at (run-says (sheet_in s) (in_range sheet.indexed.sheet) f.form formed) in
+      let most = (in_range sheet.indexed.sheet).few_rules in
       let a : size f.form * length R ≤ 4096 * length R = mul-le-mul_right (length R) o.few in
       let b : 2 * size f.form * length R ≡ 2 * (size f.form * length R) = omega arith in
       record { fits = omega (arith, says.2) }

@@ -16,7 +16,8 @@ pub record Form (s tree : List ℕ) (n : ℕ) : Type 0 where
 -- The nodes have their state words; or one of them reaches two states, and then all state words are 0.
 abbrev pub Ends : (s tree old : List ℕ) → Answer → (states : List ℕ) → Type 0
 Ends s tree old (Ok looks) states = run (rules_in s) (items tree) ≡ ran states looks
-Ends s tree old (Err r) states = (i : ℕ) × (r ≡ TwoStates i) × (run (rules_in s) (items tree) ≡ two_at i) × (states ≡ replicate (length old) 0)
+Ends s tree old (Err r) states =
+    (i : ℕ) × (r ≡ TwoStates i) × (run (rules_in s) (items tree) ≡ two_at i) × (states ≡ replicate (length old) 0)
 
 -- what is said of a tree by a sheet, both of which pass, and the state words in place of `old`
 abbrev pub verdict_on : (s tree : List ℕ) → Said

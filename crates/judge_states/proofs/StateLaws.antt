@@ -4,55 +4,40 @@ use mathlib.Core.Logic.{◌≢◌}
 use mathlib.Core.Bool.{Bool, true, false, cond}
 use mathlib.Core.List.Memᴰ
 use mathlib.Core.List.{List, [], ◌∷◌}
-use Prim.Native.Nat.{ℕ, zero, suc, ◌+◌, ◌-◌, ◌*◌, ◌/◌, ◌%◌, ◌^◌, ◌≤◌, ◌<◌}
+use Prim.Native.Nat.{ℕ, zero, suc, ◌+◌, ◌-◌, ◌*◌, ◌/◌, ◌%◌, ◌≤◌, ◌<◌}
 use native.Mathlib.Numerals.{add-one}
 use native.Mathlib.Omega.{arith}
 use lib.Dec.{eqb}
-use lib.ListN.{length, get_or, drop, length-drop, drop_of_length-le}
-use lib.Seq.{drop-cons}
+use lib.ListN.{length, get_or, drop, drop_of_length-le}
 use Rattle.std.specs.Prelude.{None, Some}
-use Rattle.model.specs.Lists.{◌∈◌, has}
+use Rattle.model.specs.Lists.{has}
 use Rattle.model.specs.Answers.{accepted, refused, stuck}
 use Rattle.model.specs.Sheet.{W, bit, mask, members}
-use Rattle.model.specs.Run.{gist, last_zero, root_verdict}
+use Rattle.model.specs.Run.{last_zero, root_verdict}
 use Rattle.model.specs.Index.{sheet_in, Passes}
 use Rattle.model.proofs.PassedLaws.{in_range, final-words}
 use Rattle.model.proofs.Tests.{or_right, eqb-false}
 use Rattle.model.proofs.SetWords.{members_set}
 use Rattle.bits.specs.Stands.{Stands}
-use Rattle.bits.proofs.SetLaws.{stands_none, stands-some, members_stand, words_stand}
-use Rattle.bits.proofs.GistLaws.{gist_just, gist_several}
+use Rattle.bits.proofs.SetLaws.{words_stand}
+use Rattle.bits.proofs.GistLaws.{gist-members}
 use Rattle.judge_states.specs.States.{WordOf}
 
 -- ---- the state word of a set
 
-pub word_none : {targets : ℕ} → targets ≡ 0 → WordOf targets (Some 0)
-unfolding gist
-word_none e = record { says = λ l s. rw (stands_none s e) }
+-- no member, one, and several
+pub word_none : {targets : ℕ} → members 64 targets ≡ [] → WordOf targets (Some 0)
+word_none e = record { says = λ l s. rw (gist-members s, e) refl }
 
 -- the lowest member is a state
-pub low_small : {targets low : ℕ} → targets < 2 ^ 64 → targets ≢ 0 → low ≡ get_or (members 64 targets) 0 64 → low < 64
-low_small {targets} small n lowest =
-    let (x, xs, e) = stands-some (members_stand small) n in
-    rw lowest ((members_set 64 targets).below _ (first (members 64 targets) e))
-  where
-    first : (m : List ℕ) {x : ℕ} {xs : List ℕ} → m ≡ x ∷ xs → get_or m 0 64 ∈ m
-    first m e = rw e (Memᴰ.head refl)
+pub low_small : (targets : ℕ) {q : ℕ} {others : List ℕ} → members 64 targets ≡ q ∷ others → q < 64
+low_small targets e = (members_set 64 targets).below _ (rw e (Memᴰ.head refl))
 
--- with other members beside the lowest, and without
-module _ {targets rest : ℕ} (others : members 64 rest ≡ drop 1 (members 64 targets)) (fits : rest < 2 ^ 64) where
-  pub word_several : rest ≢ 0 → WordOf targets None
-  word_several n =
-      let (x, xs, e) = stands-some (members_stand fits) n in
-      let two : 1 < length (members 64 targets) = omega (arith, length-drop 1 (members 64 targets), ap length (sym others ∙ e)) in
-      record { says = λ l s. rw (gist_several s (omega arith) (omega arith)) }
+pub word_one : {targets q : ℕ} → members 64 targets ≡ q ∷ [] → WordOf targets (Some (q + 1))
+word_one {q} e = record { says = λ l s. rw (gist-members s, e) (ap Some (add-one q), low_small _ e) }
 
-  pub word_one : targets < 2 ^ 64 → targets ≢ 0 → rest ≡ 0 → {low : ℕ} → low ≡ get_or (members 64 targets) 0 64 → WordOf targets (Some (low + 1))
-  word_one small n z {low} lowest =
-      let (x, xs, e) = stands-some (members_stand small) n in
-      let none = ap length (sym others ∙ stands_none (members_stand fits) z) in
-      let one : length (members 64 targets) ≡ 1 = omega (arith, length-drop 1 (members 64 targets), ap length e) in
-      record { says = λ l s. rw (gist_just s one, ← lowest) (ap Some (add-one low), omega (arith, low_small small n lowest)) }
+pub word_several : {targets q r : ℕ} {others : List ℕ} → members 64 targets ≡ q ∷ r ∷ others → WordOf targets None
+word_several e = record { says = λ l s. rw (gist-members s, e) refl }
 
 -- ---- the verdict
 
@@ -81,11 +66,6 @@ zero_absent (s ∷ st) (suc i) others = zero_absent st i (λ k l h. others (suc 
 pub last_zero_found : (st : List ℕ) (i : ℕ) → i < length st → get_or st i 0 ≡ 0
     → ((k : ℕ) → i + 1 ≤ k → k < length st → get_or st k 0 ≢ 0) → i ≡ last_zero st
 last_zero_found st i h e others = sym (last_zero_at st i h e (zero_absent st (i + 1) others))
-
-pub last_zero_none : (st : List ℕ) → ((k : ℕ) → k < length st → get_or st k 0 ≢ 0) → 0 ≡ last_zero st
-unfolding last_zero
-last_zero_none [] others = refl
-last_zero_none (s ∷ st) others = rw (zero_absent st 0 (λ k l h. others (suc k) (omega arith))) refl
 
 -- the final states of a sheet that passes
 pub final-stands : {s : List ℕ} → Passes s → {r : ℕ} → r ≡ get_or s 2 0 + get_or s 3 0 * W → Stands r (sheet_in s).final

@@ -32,11 +32,13 @@ returns-then-states-n c =
 pub slice_bounds-judge_nodes-end-2 : goal.slice_bounds-judge_nodes-end-2
 slice_bounds-judge_nodes-end-2 c = sym (length-take-le _ _ c.if-states-n.false)
 
+pub invariant_of-indexed : goal.invariant_of-indexed
+invariant_of-indexed c = record { indexed = sheet-indexed _ _ c.index.ensures.answer c.index.ensures.index c.in_ok-index.was }
+
 pub judge_nodes-requires : goal.judge_nodes-requires
 judge_nodes-requires c =
     let h = sheet-indexed _ _ c.index.ensures.answer c.index.ensures.index c.in_ok-index.was in
-    let form = tree_counted _ h c.at.ensures c.check.ensures c.in_ok-n.was in
-    record { index = h; tree = front-form _ form c.if-states-n.false }
+    front-form _ (tree_counted _ h c.at.ensures c.check.ensures c.in_ok-n.was) c.if-states-n.false
 
 pub returns : goal.returns
 unfolding said_judgement said_refusal

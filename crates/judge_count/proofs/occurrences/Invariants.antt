@@ -3,4 +3,4 @@ use Rattle.judge_count.proofs.SumLaws.{CountsTo}
 use Rattle.judge_count.proofs.occurrences.Given as goal
 
 abbrev pub invariant-loop-word : goal.invariant-loop-word
-invariant-loop-word l = CountsTo l.words l.counts l.word-index
+invariant-loop-word l = CountsTo l.children.words.now l.counts l.word-index

@@ -5,16 +5,14 @@ use Rattle.model.specs.Answers.{said_judgement}
 use Rattle.judge_run.proofs.RunLaws.{form-shaped, form-some, looks_fit, all_said, two_said}
 use Rattle.judge_run.proofs.judge_nodes.Goals as goal
 
-pub run-requires-clause-tree : goal.run-requires-clause-tree
-run-requires-clause-tree c =
-    let shaped = form-shaped c.requires.index c.requires.tree in
-    (shaped, shaped.few)
+pub run-requires : goal.run-requires
+run-requires c = form-shaped c.args.sheet.now c.requires
 
 pub overflow_cast-looks : goal.overflow_cast-looks
-overflow_cast-looks c = looks_fit c.requires.index c.requires.tree _ _ c.run.ensures c.in_ok-looks.was
+overflow_cast-looks c = looks_fit c.args.sheet.now c.requires _ _ c.run.ensures c.in_ok-looks.was
 
-pub verdict-requires-clause-nodes : goal.verdict-requires-clause-nodes
-verdict-requires-clause-nodes c = omega (arith, form-some c.requires.tree)
+pub verdict-requires : goal.verdict-requires
+verdict-requires c = omega (arith, form-some c.requires)
 
 pub returns-in_err-looks : goal.returns-in_err-looks
 unfolding said_judgement

@@ -8,5 +8,4 @@ pub returns-then-has : goal.returns-then-has
 returns-then-has c = rw (sym c.has.ensures ∙ c.if-has.true) c.with_if.ensures
 
 pub returns : goal.returns
-returns c = rw (sym c.has.ensures ∙ c.if-has.false)
-    (without_bit false _ 0 c.ranges.targets.fits refl)
+returns c = rw (sym c.has.ensures ∙ c.if-has.false) (without_bit false _ 0 c.ranges.targets.fits refl)

@@ -1,20 +1,26 @@
--- `Book::tag_targets` meets its contract: so far the set holds what the rules before the i-th give, which has the tag.
+-- `Book::tag_targets` meets its contract: so far the set holds what the rules before those that are left give.
 use mathlib.Core.Path.{refl}
-use borrow.Author.Rules.{rules}
-use Rattle.judge_rules.proofs.TargetLaws.{chain_nearer, chain_ended, tag_rules, targets_begun, target_room, target-added}
+use Rattle.judge_rules.proofs.TargetLaws.{chain_begun, chain_ended, tag_rules, target_room, target-added}
 use Rattle.judge_rules.proofs.numbers.Book.tag_targets.Goals as goal
 
-pub loop-i-init : goal.loop-i-init
-loop-i-init c = targets_begun c.args.self.now.known.ruled (tag_rules _ c.requires) refl refl
+pub loop-rule-init : goal.loop-rule-init
+loop-rule-init c =
+    let all = c.chain-rule-items.ensures in (
+      tt,
+      tt,
+      rw c.into_iter-rule-iterator.ensures.into_iter_gives
+          (chain_begun (tag_rules c.args.inner c.requires.0) _ refl all.key all.all),
+    )
 
 pub with_target-targets-requires : goal.with_target-targets-requires
-with_target-targets-requires c = search (target_room c.args.self.now.known.ruled (tag_rules c.args.inner c.requires), rules)
+with_target-targets-requires c =
+    let (_, _, g) = c.loop-rule.invariant in
+    target_room (tag_rules c.args.inner c.requires.0) _ g c.in-Some.rule c.in-Some.ensures.steps
 
-pub loop-i-smaller : goal.loop-i-smaller
-loop-i-smaller c = search (chain_nearer, rules)
-
-pub loop-i-preserved : goal.loop-i-preserved
-loop-i-preserved c = search (target-added c.args.self.now.known.ruled (tag_rules c.args.inner c.requires), rules)
+pub loop-rule-preserved : goal.loop-rule-preserved
+loop-rule-preserved c =
+    let (_, _, g) = c.loop-rule.invariant in
+    (tt, tt, target-added (tag_rules c.args.inner c.requires.0) _ g c.in-Some.rule c.in-Some.ensures.steps c.with_target-targets.ensures)
 
 pub returns : goal.returns
-returns c = search (chain_ended, rules)
+returns c = let (_, _, g) = c.loop-rule.invariant in chain_ended g c.in-None.ensures.steps

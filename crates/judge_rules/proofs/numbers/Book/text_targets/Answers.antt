@@ -1,32 +1,27 @@
--- `Book::text_targets` meets its contract: so far the set holds what the rules before the i-th give, which has the kind.
-use mathlib.Core.Path.{refl}
-use Prim.Native.Nat.{◌+◌, ◌<◌}
-use native.Mathlib.Omega.{arith}
-use lib.ListN.{length}
-use borrow.Author.Rules.{rules}
+-- `Book::text_targets` meets its contract: so far the set holds what the rules before those that are left give.
 use Rattle.model.specs.Run.{text_targets}
-use Rattle.judge_rules.proofs.TargetLaws.{chain_nearer, chain_ended, text_rules, targets_begun, target_room, target-added}
+use Rattle.judge_rules.proofs.TargetLaws.{chain_begun, chain_ended, text_rules, target_room, target-added}
 use Rattle.judge_rules.proofs.numbers.Book.text_targets.Goals as goal
 
-pub loop-i-init : goal.loop-i-init
-loop-i-init c = targets_begun c.args.self.now.known.ruled (text_rules c.args.kind) c.text_key.ensures refl
+pub loop-rule-init : goal.loop-rule-init
+loop-rule-init c =
+    let all = c.chain-rule-items.ensures in (
+      tt,
+      tt,
+      rw c.into_iter-rule-iterator.ensures.into_iter_gives
+          (chain_begun (text_rules c.args.kind) _ c.text_key.ensures all.key all.all),
+    )
 
 -- the target of the rule in hand is in the sheet
-pub overflow_add-entry : goal.overflow_add-entry
-overflow_add-entry c =
-    let room : c.from-entry.result.begin + 2 < length c.args.self.now.sheet.now
-    = search (target_room c.args.self.now.known.ruled (text_rules c.args.kind), rules) in
-    omega arith
+pub bounds-rule-rule : goal.bounds-rule-rule
+bounds-rule-rule c =
+    let (_, _, g) = c.loop-rule.invariant in target_room (text_rules c.args.kind) _ g c.in-Some.rule c.in-Some.ensures.steps
 
-pub bounds-sheet-entry : goal.bounds-sheet-entry
-bounds-sheet-entry c = search (target_room c.args.self.now.known.ruled (text_rules c.args.kind), rules)
-
-pub loop-i-smaller : goal.loop-i-smaller
-loop-i-smaller c = search (chain_nearer, rules)
-
-pub loop-i-preserved : goal.loop-i-preserved
-loop-i-preserved c = search (target-added c.args.self.now.known.ruled (text_rules c.args.kind), rules)
+pub loop-rule-preserved : goal.loop-rule-preserved
+loop-rule-preserved c =
+    let (_, _, g) = c.loop-rule.invariant in
+    (tt, tt, target-added (text_rules c.args.kind) _ g c.in-Some.rule c.in-Some.ensures.steps c.with_if-targets.ensures)
 
 pub returns : goal.returns
 unfolding text_targets
-returns c = search (chain_ended, rules)
+returns c = let (_, _, g) = c.loop-rule.invariant in chain_ended g c.in-None.ensures.steps
