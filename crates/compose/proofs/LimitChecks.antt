@@ -1,19 +1,19 @@
 -- Refusal 21: the checks of a joint sheet's limits, by the first that its rules exceed, and of its words.
 use mathlib.Core.Path.{◌≡◌, refl, sym, ap, ap₂, ◌∙◌, subst}
 use mathlib.Core.Bool.{Bool, true, false, cond}
-use mathlib.Core.List.{List}
+use mathlib.Core.List.{List, flat_map}
 use Prim.Native.Nat.{ℕ, ◌+◌, ◌*◌, ◌^◌, ◌≤◌, ◌<◌}
 use native.Mathlib.Omega.{arith}
 use lib.Dec.{leb}
-use lib.ListN.{length, get_or}
+use lib.ListN.{length}
 use borrow.Author.Tests as tests
 use Rattle.std.specs.Prelude.{Option, Some, None, Result, Ok, Err}
 use Rattle.std.proofs.lemmas.Result.{MatchResult-at_ok, MatchResult-at_err}
 use Rattle.model.specs.Lists.{every}
 use Rattle.model.specs.Answers.{count, refusal, Checked, refuses, require, ◌>>◌}
-use Rattle.model.specs.Sheet.{Rule, Sheet, set_words, sheet_words}
-use Rattle.model.specs.Compose.{of_pairs, positions_of, arcs_of, steps_of, joint, within_limits}
-use Rattle.model.specs.Index.{sheet_in}
+use Rattle.model.specs.Sheet.{Rule, Sheet, set_words, rule_words, sheet_words}
+use Rattle.model.specs.Compose.{Sizes, of_pairs, positions_of, arcs_of, steps_of, joint_rules, joint, within_limits}
+use Rattle.model.specs.Index.{sheet_in, rules_in}
 use Rattle.model.proofs.Tests.{Yes}
 use Rattle.model.proofs.ListLaws.{every-∈}
 use Rattle.model.proofs.PassedLaws.{in_range}
@@ -22,11 +22,12 @@ use Rattle.limits.specs.declared.Limit.{Limit}
 use Rattle.limits.specs.declared.Limit.TheVariants as limits
 use Rattle.limits.specs.Limits.{place, first_of}
 use Rattle.join_pairs.specs.Pairs.{FewPairs}
+use Rattle.join_pairs.specs.Sides.{sizes_of}
 use Rattle.join_pairs.proofs.NumberLaws.{mul_le}
-use Rattle.join_alike.specs.declared.IndexedSheet.{IndexedSheet}
+use Rattle.indexed.specs.declared.IndexedSheet.{IndexedSheet}
 use Rattle.join_alike.specs.declared.Sheets.{Sheets}
 use Rattle.join_alike.specs.Joins.{sizes_in}
-use Rattle.join_alike.specs.Alike.{sheets_sizes, sheets_joint, FewPositions}
+use Rattle.join_alike.specs.Alike.{sheets_joint, FewPositions}
 use Rattle.join_limits.specs.declared.Tally.{Tally}
 use Rattle.join_limits.specs.Limits.{first_in, first_limit, Within, LimitOf}
 use Rattle.join_sheets.specs.Sheets.{joint_in, joint_of, WithinLimits}
@@ -95,20 +96,23 @@ module _ (s t : IndexedSheet) {p q : ℕ} (ep : p ≡ (sheet_in s.words.now).sta
 
   pub product_fits : p * q ≤ 64 * 64
   product_fits =
-      mul_le p q {x = 64} {y = 64} (omega (arith, ep, (in_range s.indexed.sheet).few_states)) (omega (arith, eq, (in_range t.indexed.sheet).few_states))
+      let small : p ≤ 64 = omega (arith, ep, (in_range s.indexed.sheet).few_states) in
+      mul_le p q {x = 64} {y = 64} small (omega (arith, eq, (in_range t.indexed.sheet).few_states))
 
   pub states-over : 64 < p * q → (out : List ℕ) → Limits s.words.now t.words.now out (refusal 21 1) out
   unfolding within_limits require ◌>>◌
   states-over l out =
       gives_refusal out (rw (tests.lt-leb (joint_in s.words.now t.words.now).states 64 (omega (arith, product))) refl)
 
-  pub few_joinable : p * q ≤ 64 → FewPairs (sizes_in s.words.now t.words.now)
-  unfolding joint
+  pub few_joinable : p * q ≤ 64 → FewPairs (record { of_S = p; of_T = q })
   few_joinable l = record {
-    some_S = (in_range s.indexed.sheet).some_states;
-    some_T = (in_range t.indexed.sheet).some_states;
-    few = omega (arith, product);
+    some_S = rw ep (in_range s.indexed.sheet).some_states;
+    some_T = rw eq (in_range t.indexed.sheet).some_states;
+    few = l;
   }
+
+  pub sized : ◌≡◌ {A = Sizes} (record { of_S = p; of_T = q }) (sizes_in s.words.now t.words.now)
+  sized = λ i. record { of_S = ep i; of_T = eq i }
 
 -- ---- the limits of rules, by their tally
 
@@ -121,35 +125,48 @@ module _ (b : Sheets) where
 
   few-joint : (joint_of b).states ≤ 64
   unfolding joint
-  few-joint = b.few.few
+  few-joint = subst (λ (n : Sizes). of_pairs n ≤ 64) b.sized b.sizes.few.few
+
+  -- the rules of the joint sheet and their words, as the code has the numbers of states
+  abbrev joint_by : Sizes → List Rule
+  joint_by n = joint_rules n (rules_in u) (rules_in v)
+
+  same_rules : sheets_joint b ≡ (joint_of b).rules
+  unfolding joint
+  same_rules = ap joint_by b.sized
+
+  same_words : flat_map (rule_words (of_pairs (sizes_of b.sizes))) (sheets_joint b)
+      ≡ flat_map (rule_words (joint_of b).states) (joint_of b).rules
+  unfolding joint
+  same_words = ap (λ (n : Sizes). flat_map (rule_words (of_pairs n)) (joint_by n)) b.sized
+
+  limit-same : first_limit (joint_of b).rules ≡ first_limit (sheets_joint b)
+  limit-same = ap first_limit (sym same_rules)
 
   pub rules-over : {l : Limit} → first_limit (sheets_joint b) ≡ Some l → (out : List ℕ) → Limits u v out (refusal 21 (place l)) out
-  unfolding ◌>>◌ joint
-  rules-over h out = gives_refusal out (rw (limits_over (joint_of b) few-joint h) refl)
+  unfolding ◌>>◌
+  rules-over h out = gives_refusal out (rw (limits_over (joint_of b) few-joint (limit-same ∙ h)) refl)
 
-  module _ {t : Tally} (h : Within (of_pairs (sheets_sizes b)) (sheets_joint b) t) where
+  module _ {t : Tally} (h : Within (of_pairs (sizes_of b.sizes)) (sheets_joint b) t) where
     abbrev words : List ℕ
     words = sheet_words (joint_of b)
 
     kept : (within_limits (joint_of b) ≡ require (leb (length words) 16384) 21 6) × (length (joint_of b).rules ≤ 1024)
         × FewPositions (joint_of b).rules
-    unfolding joint
-    kept = limits_within (joint_of b) few-joint h.none
+    kept = limits_within (joint_of b) few-joint (limit-same ∙ h.none)
 
     -- six words come before the rules
     long : 6 + t.words ≡ length words
     unfolding joint sheet_words set_words
-    long = omega (arith, h.tally.words)
+    long = omega (arith, h.tally.words, ap length same_words)
 
     pub few_rules : (t.rules ≤ 1024) × (t.words ≤ 2 ^ 31)
-    unfolding joint
     few_rules =
-        let few : t.rules ≤ 1024 = omega (arith, h.tally.rules, kept.1) in
+        let few : t.rules ≤ 1024 = omega (arith, h.tally.rules, kept.1, ap length same_rules) in
         (few, omega (arith, t.few))
 
     pub within_limits_of_rules : WithinLimits b t.rules
-    unfolding joint
-    within_limits_of_rules = record { few_positions = kept.2; number = h.tally.rules }
+    within_limits_of_rules = record { few_positions = subst FewPositions (sym same_rules) kept.2; number = h.tally.rules }
 
     module _ (out : List ℕ) where
       pub words-over : 16384 < 6 + t.words → Limits u v out (refusal 21 6) out

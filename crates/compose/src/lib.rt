@@ -6,8 +6,10 @@ ghost use Rattle.model.specs.Answers.{refusal, said, said_refusal};
 ghost use Rattle.model.specs.Calls.{swap_said, swap_out, join_said, join_out};
 ghost use Rattle.compose.specs.Joins.{Limits};
 
-use join_alike::{IndexedSheet, Sheets};
+use indexed::IndexedSheet;
+use join_alike::Sheets;
 use join_limits::Tally;
+use join_pairs::Sizes;
 use join_sheets::{put_joint, put_swapped};
 use layout::{INDEX_WORDS, MOST_STATES, MOST_WORDS, TAGS};
 use limits::Limit;
@@ -22,6 +24,7 @@ const HEAD_WORDS: usize = 6;
 
 // The sheet with its final states complemented, to the front of a buffer: the number of its words, or 9, or 22. A refusal
 // writes nothing.
+// kept: what is read and what is written are lent apart, as the C interface has them
 pub fn swap(sheet: &[u32], out: &mut [u32]) -> Result<usize, Refusal>
     ensures answer { said result ≡ swap_said sheet.now out.old }
     ensures out { out.new ≡ swap_out sheet.now out.old }
@@ -52,10 +55,13 @@ fn join_few(sheets: &Sheets, out: &mut [u32]) -> Result<usize, Refusal>
 fn join_indexed(s: IndexedSheet, t: IndexedSheet, out: &mut [u32]) -> Result<usize, Refusal>
     ensures { Limits s.entry.words.now t.entry.words.now out.old (said result) out.new }
 {
-    if MOST_STATES < s.states() * t.states() {
+    let p = s.states();
+    let q = t.states();
+    if MOST_STATES < p * q {
         return Err(Refusal::from(Limit::States));
     }
-    join_few(&Sheets { s, t }, out)
+    let sizes = Sizes { s: p, t: q };
+    join_few(&Sheets { s, t, sizes }, out)
 }
 
 // A refusal of T's words.

@@ -1,29 +1,22 @@
 -- Rules with one key are of one kind and make one joint rule; rules with two keys make none.
 use mathlib.Core.Path.{◌≡◌, refl, sym, ap, ◌∙◌}
 use mathlib.Core.Logic.{◌≢◌}
-use mathlib.Core.List.Memᴰ
 use mathlib.Core.List.{List, [], ◌∷◌, ◌++◌, flat_map}
 use mathlib.Core.Option.{Option}
-use Prim.Native.Nat.{ℕ, zero, suc, ◌+◌, ◌/◌, ◌^◌, ◌≤◌, ◌<◌}
+use Prim.Native.Nat.{ℕ, ◌+◌}
 use native.Mathlib.Omega.{arith}
-use lib.ListN.{length, get_or, drop, drop_of_length-le}
-use Rattle.model.specs.Lists.{◌∈◌, only}
+use Rattle.model.specs.Lists.{only}
 use Rattle.model.specs.Sheet.{Order, Step, Rule, one, two, three, RuleInRange}
 use Rattle.model.specs.Compose as model
 use Rattle.model.specs.Compose.{pair, joint_order, joint_count, pair_rule, joint_rules}
-use Rattle.model.specs.Index.{sheet_in, rules_in, nth, key}
+use Rattle.model.specs.Index.{sheet_in, key}
 use Rattle.model.proofs.Tests.{eqb_yes, eqb-false}
-use Rattle.model.proofs.ListLaws.{∈-each}
-use Rattle.model.proofs.Chains.{rules-next}
-use Rattle.model.proofs.IndexLaws.{chain_first, chain_next, chain_few}
+use Rattle.indexed.specs.Rules.{rule_of}
+use Rattle.indexed.specs.Walks.{with_key}
+use Rattle.indexed.proofs.SpotLaws.{stands}
+use Rattle.indexed.proofs.WalkLaws.{with_key-all}
+use Rattle.join_pairs.specs.Sides.{sizes_of}
 use Rattle.join_alike.specs.declared.RulePair.{RulePair}
-use Rattle.join_alike.specs.declared.Row.{Row}
-use Rattle.join_alike.specs.declared.Pairs.{Pairs}
-use Rattle.join_alike.specs.declared.Sheets.{Sheets}
-use Rattle.join_alike.specs.Spots.{rule_in}
-use Rattle.join_alike.specs.Joins.{sizes_in, HasKey}
-use Rattle.join_alike.specs.Alike.{rule_of, pair_sizes, pair_joint, row_sizes, row_joint, joint_left, PairNext, sheets_sizes, sheets_joint}
-use Rattle.join_alike.proofs.SpotLaws.{stands}
 
 -- ---- two rules
 
@@ -68,63 +61,35 @@ paired_rule (contents o u φ ψ s t) = refl
 -- ---- two spots
 
 -- a pair of rules makes one joint rule
-pub alike_paired : (r : RulePair) → (z : Rule) × JointOf (pair_sizes r) (rule_of r.s) (rule_of r.t) z
+pub alike_paired : (r : RulePair) → (z : Rule) × JointOf (sizes_of r.sizes) (rule_of r.s) (rule_of r.t) z
 alike_paired r =
-    paired (pair_sizes r) (sheet_in r.s.sheet.words.now).states (sheet_in r.t.sheet.words.now).states (rule_of r.s) (rule_of r.t)
+    paired (sizes_of r.sizes) (sheet_in r.s.sheet.words.now).states (sheet_in r.t.sheet.words.now).states (rule_of r.s) (rule_of r.t)
     (stands r.s).begins.ranges (stands r.t).begins.ranges r.one_key
 
-nth-∈ : (xs : List Rule) (j : ℕ) → j < length xs → nth xs j ∈ xs
-nth-∈ [] j l = absurd (omega arith)
-nth-∈ (x ∷ xs) zero l = Memᴰ.head refl
-nth-∈ (x ∷ xs) (suc j) l = Memᴰ.tail (nth-∈ xs j (omega arith))
+-- ---- a rule and rules of the other sheet
 
--- past the last rule nothing is made
-pub rules_none : (xs : List Rule) {n j : ℕ} → length xs ≡ n → n ≤ j → {B : Type 0} (f : Rule → List B) → flat_map f (drop j xs) ≡ []
-unfolding flat_map
-rules_none xs {j = j} e l f = ap (flat_map f) (drop_of_length-le xs {i = j} (omega arith))
+module _ (n : model.Sizes) (x : Rule) where
+  -- those with its key make all joint rules
+  pub alike_all : {k : ℕ} → k ≡ key x → (R : List Rule) → flat_map (pair_rule n x) R ≡ flat_map (pair_rule n x) (with_key k R)
+  alike_all e R = sym (with_key-all (pair_rule n x) (λ y d. keys_apart n x y (λ i. d (i ∙ sym e))) R)
 
--- ---- along the chain of T's rules with the key of S's rule
+  pub pairs_next : {R rest : List Rule} {y : Rule} → R ≡ y ∷ rest
+      → flat_map (pair_rule n x) R ≡ pair_rule n x y ++ flat_map (pair_rule n x) rest
+  unfolding flat_map
+  pairs_next e = rw e refl
 
-module _ (r : Row) where
-  abbrev own : Rule
-  own = rule_of r.rule
+  pub pairs_none : {R : List Rule} → R ≡ [] → flat_map (pair_rule n x) R ≡ []
+  unfolding flat_map
+  pairs_none e = rw e refl
 
-  pub row_begun : {k w j : ℕ} → k ≡ key own → k < 67 → w ≡ get_or r.others.index.now k 0 → j ≡ w
-      → HasKey r.others.words.now j (key own)
-      × (row_joint r ≡ flat_map (pair_rule (row_sizes r) own) (drop j (rules_in r.others.words.now)))
-  row_begun {k} {w} {j} e l f i =
-      let at : j ≡ get_or r.others.index.now (key own) 0 = i ∙ f ∙ ap (λ (m : ℕ). get_or r.others.index.now m 0) e in
-      let (all, there) = chain_first r.others.indexed (pair_rule (row_sizes r) own) (keys_apart (row_sizes r) own) (omega (arith, e)) at in
-      (record { has_key = there }, all)
+-- ---- rules of one sheet and all rules of the other
 
-  -- the rule that the entry w of T's rule j tells of is next
-  pub row_next : {j w i : ℕ} → j < length (rules_in r.others.words.now) → HasKey r.others.words.now j (key own)
-      → w ≡ get_or r.others.index.now (67 + j) 0 → i ≡ w / 2 ^ 16
-      → HasKey r.others.words.now i (key own) × (flat_map (pair_rule (row_sizes r) own) (drop j (rules_in r.others.words.now))
-      ≡ pair_rule (row_sizes r) own (rule_in r.others.words.now j)
-      ++ flat_map (pair_rule (row_sizes r) own) (drop i (rules_in r.others.words.now))) × (j < i)
-  row_next {j} {w} {i} l h f e =
-      let at : i ≡ get_or r.others.index.now (67 + j) 0 / 2 ^ 16 = e ∙ ap (λ (m : ℕ). m / 2 ^ 16) f in
-      let (next, there) = chain_next r.others.indexed (pair_rule (row_sizes r) own) (keys_apart (row_sizes r) own) l (h.has_key l) at in
-      (record { has_key = there }, next, (chain_few r.others.indexed l at).0)
+module _ (n : model.Sizes) (Q : List Rule) where
+  pub rows_next : {R rest : List Rule} {x : Rule} → R ≡ x ∷ rest
+      → joint_rules n R Q ≡ flat_map (pair_rule n x) Q ++ joint_rules n rest Q
+  unfolding joint_rules flat_map
+  rows_next e = rw e refl
 
--- ---- the rules of S, one at a time
-
-module _ (b : Sheets) where
-  -- the joint rules of S's rules from number k on
-  abbrev pub rows_from : ℕ → List Rule
-  rows_from k = joint_rules (sheets_sizes b) (drop k (rules_in b.s.words.now)) (rules_in b.t.words.now)
-
-  pub rows_done : {m k : ℕ} → m ≡ length (rules_in b.s.words.now) → m ≤ k → rows_from k ≡ []
-  unfolding joint_rules
-  rows_done e l = rules_none (rules_in b.s.words.now) (sym e) l (λ r. flat_map (pair_rule (sheets_sizes b) r) (rules_in b.t.words.now))
-
-  -- the row of S's rule k makes the first of them
-  pub rows_next : {k : ℕ} (r : Row) → k < length (rules_in b.s.words.now) → r.others ≡ b.t → r.rule.sheet ≡ b.s → r.rule.rule ≡ k
-      → (rows_from k ≡ row_joint r ++ rows_from (k + 1)) × (row_sizes r ≡ sheets_sizes b)
-  unfolding joint_rules
-  rows_next {k} r l eo es ek = (
-    rw (es, eo, ek)
-        (rules-next (rules_in b.s.words.now) refl l (λ x. flat_map (pair_rule (sheets_sizes b) x) (rules_in b.t.words.now))),
-    rw (es, eo) refl,
-  )
+  pub rows_none : {R : List Rule} → R ≡ [] → joint_rules n R Q ≡ []
+  unfolding joint_rules flat_map
+  rows_none e = rw e refl

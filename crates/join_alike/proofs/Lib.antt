@@ -1,3 +1,1 @@
-pub mod SpotLaws
-pub mod RuleParts
 pub mod AlikeLaws

@@ -36,33 +36,31 @@ fn joint_map(rules: &RulePair) -> u32
 }
 
 // Writes the joint order part of two rules, if there is one.
+// kept: rules are read, a page is written; FewPositions is no field of a pair: the tally has the same pairs before limits are told
 fn put_order(rules: &RulePair, page: &mut Page)
     requires { FewPositions (pair_joint rules.now) }
     ensures { Writes page.old (order_in rules.now) page.new }
 {
-    let sizes = rules.sizes();
-    let s = rules.s.order_part();
-    let t = rules.t.order_part();
-    match (rules.s.has_order(), rules.t.has_order()) {
-        (true, true) => pair_order(Both { s, t }, sizes, page),
-        (true, false) => lift_order(s, Side::S, sizes, page),
-        (false, true) => lift_order(t, Side::T, sizes, page),
-        (false, false) => {}
+    let sizes = rules.sizes;
+    match (rules.s.order_part(), rules.t.order_part()) {
+        (Some(s), Some(t)) => pair_order(Both { s, t }, sizes, page),
+        (Some(s), None) => lift_order(s, sizes.half(Side::S), page),
+        (None, Some(t)) => lift_order(t, sizes.half(Side::T), page),
+        (None, None) => {}
     }
 }
 
 // Writes the joint count part of two rules, if there is one.
+// kept: one function for both, over the two writers, took seven clauses: what each asks and leaves in each arm, at any page lent to it
 fn put_count(rules: &RulePair, page: &mut Page)
     ensures { Writes page.old (count_in rules.now) page.new }
 {
-    let sizes = rules.sizes();
-    let s = rules.s.count_part();
-    let t = rules.t.count_part();
-    match (rules.s.has_count(), rules.t.has_count()) {
-        (true, true) => join_counts(Both { s, t }, sizes, page),
-        (true, false) => lift_count(s, Side::S, sizes, page),
-        (false, true) => lift_count(t, Side::T, sizes, page),
-        (false, false) => {}
+    let sizes = rules.sizes;
+    match (rules.s.count_part(), rules.t.count_part()) {
+        (Some(s), Some(t)) => join_counts(Both { s, t }, sizes, page),
+        (Some(s), None) => lift_count(s, sizes.half(Side::S), page),
+        (None, Some(t)) => lift_count(t, sizes.half(Side::T), page),
+        (None, None) => {}
     }
 }
 
@@ -75,9 +73,8 @@ pub fn put_contents(rules: &RulePair, page: &mut Page)
     page.put(joint_map(rules));
     put_order(rules, page);
     put_count(rules, page);
-    page.put(
-        rules
-            .sizes()
-            .pair(rules.s.target_state(), rules.t.target_state()),
-    );
+    let target = rules
+        .sizes
+        .pair(rules.s.target_state(), rules.t.target_state());
+    page.put(target);
 }

@@ -1,2 +1,3 @@
 pub mod CountWords
 pub mod StepWords
+pub mod StepLaws

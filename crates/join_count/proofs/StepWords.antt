@@ -12,14 +12,14 @@ use Rattle.model.specs.Sheet.{signed_word, set_words, sum_words, step_words, Sum
 use Rattle.model.specs.Compose.{Side, Sizes, of_pairs, lift_sum, lift_step}
 use Rattle.model.specs.Spans.{WordsAt, SumAt, StepAt}
 use Rattle.model.proofs.Spans.{word-here, word_next, span_left}
-use Rattle.model.proofs.PartLaws.{words-within, words_part, PartsLeft, next_part}
+use Rattle.model.proofs.PartLaws.{words-within}
 use Rattle.parts.specs.Lengths.{sum_length, step_length}
-use Rattle.join_pairs.specs.Sides.{side_of}
+use Rattle.join_pairs.specs.Sides.{side_of, own_states}
 use Rattle.join_pairs.proofs.NumberLaws.{few_side}
 use Rattle.join_sum.specs.Sums.{SumOf}
 use Rattle.join_sum.proofs.SumWords.{times_words, sum-long}
 use Rattle.join_count.specs.declared.Lift.{Lift}
-use Rattle.join_count.specs.Steps.{states_of, StepOf, SomeStep}
+use Rattle.join_count.specs.Steps.{StepOf, SomeStep}
 
 -- ---- a step over p states by its words
 
@@ -109,32 +109,18 @@ module _ {p a : ℕ} {s : List ℕ} where
 -- ---- the step that the code is given
 
 module _ (l : Lift) where
-  pub few_states : states_of l ≤ 64
-  few_states = few_side l.sizes.few (side_of l.side)
-
-  -- by the words that it has among those of its sheet
-  pub step_of : {s : List ℕ} {a m : ℕ} (x : Step) → StepAt (states_of l) s a x → m ≡ step_length s a
-      → StepOf l (take (a + m - a) (drop a s)) x
-  step_of {s} {a} x h e =
-      let end = ap (λ (n : ℕ). a + n) e ∙ (step_end few_states x h).0 in
-      record { is = ap (λ (b : ℕ). take (b - a) (drop a s)) end ∙ words_part h.there; ranges = h.ranges }
-
-  -- it ends within them, where it is the next of those that are left
-  pub step_within : {s : List ℕ} {n i k : ℕ} {rest : List Step}
-      → PartsLeft (step_words (states_of l)) (StepInRange (states_of l) 32) s n i k rest → k < n → i + step_length s i ≤ length s
-  step_within {rest = rest} left more =
-      let v = next_part rest left more in
-      omega (arith, step_end few_states v.part v.here)
+  pub few_states : own_states l.half ≤ 64
+  few_states = few_side l.half.sizes.few (side_of l.half.side)
 
 module _ {l : Lift} {ws : List ℕ} where
   pub step_begins : SomeStep l ws → 0 < length ws
-  step_begins (x, h) = rw h.is (some_word (states_of l) x)
+  step_begins (x, h) = rw h.is (some_word (own_states l.half) x)
 
-  pub sum_here : get_or ws 0 0 ≤ 2 → (x : Step) → StepOf l ws x → SumStep (states_of l) ws x
-  sum_here k x h = subst (λ us. SumStep (states_of l) us x) (sym h.is) (sum_step (states_of l) x h.ranges (rw (← h.is) k))
+  pub sum_here : get_or ws 0 0 ≤ 2 → (x : Step) → StepOf l ws x → SumStep (own_states l.half) ws x
+  sum_here k x h = subst (λ us. SumStep (own_states l.half) us x) (sym h.is) (sum_step (own_states l.half) x h.ranges (rw (← h.is) k))
 
   pub refers_here : 2 < get_or ws 0 0 → (x : Step) → StepOf l ws x → Refers ws x
-  refers_here k x h = subst (λ us. Refers us x) (sym h.is) (refers (states_of l) x h.ranges (rw (← h.is) k))
+  refers_here k x h = subst (λ us. Refers us x) (sym h.is) (refers (own_states l.half) x h.ranges (rw (← h.is) k))
 
 -- ---- a sum and what follows it, as the code finds them
 

@@ -1,7 +1,6 @@
 -- How large the parts of a rule and of the joint rule of two are.
 use mathlib.Core.Path.{◌≡◌, refl, sym, ap, subst, ◌∙◌}
 use mathlib.Core.Logic.{◌≢◌}
-use mathlib.Core.Bool.{Bool, true, false}
 use mathlib.Core.List.{List, [], ◌∷◌, ◌++◌, map, flat_map}
 use mathlib.Core.Option as math
 use Prim.Native.Nat.{ℕ, ◌+◌, ◌-◌, ◌*◌, ◌^◌, ◌≤◌}
@@ -11,26 +10,23 @@ use Rattle.std.specs.Prelude.{Option, Some, None}
 use Rattle.model.specs.Lists as lists
 use Rattle.model.specs.Sheet.{Order, Step, Rule, one, two, three, arc_word, order_words, set_words, step_words, count_words, rule_words}
 use Rattle.model.specs.Sheet.{at_most, remainder, not_step, and_step, or_step}
-use Rattle.model.specs.Sheet.{RuleInRange, OrderInRange, CountInRange, IfAny}
-use Rattle.model.specs.Spans.{Content, OrderAt, CountAt, there_is, order_part, count_part}
+use Rattle.model.specs.Sheet.{RuleInRange}
+use Rattle.model.specs.Spans.{Content, OrderAt, CountAt, order_part, count_part}
 use Rattle.model.specs.Index.{sheet_in}
-use Rattle.model.specs.Compose.{Side, S, T, Sizes, of_side, of_other, of_pairs, lift_arc, pair_arc, lift_order, pair_order, joint_order}
+use Rattle.model.specs.Compose.{Side, S, T, Sizes, of_other, of_pairs, lift_arc, pair_arc, lift_order, pair_order, joint_order}
 use Rattle.model.specs.Compose.{lift_step, joint_count}
 use Rattle.model.proofs.ListLaws.{length_from, length-grid, each_append}
 use Rattle.model.proofs.Spans.{word-here}
-use Rattle.model.proofs.RuleWords.{order-room, is-there, not_there, content-words, as_text, as_tag, as_content}
-use Rattle.join_pairs.specs.declared.Side as code
-use Rattle.join_pairs.specs.declared.Sizes as numbers
-use Rattle.join_pairs.specs.declared.Part.{Part}
-use Rattle.join_pairs.specs.Sides.{side_of, sizes_of}
-use Rattle.join_pairs.proofs.NumberLaws.{mul_le, few-S, few-T}
+use Rattle.model.proofs.RuleWords.{order-room, content-words, as_text, as_tag, as_content}
+use Rattle.indexed.specs.declared.Part.{Part}
+use Rattle.indexed.specs.declared.Spot.{Spot}
+use Rattle.indexed.specs.Spots.{parts_of}
+use Rattle.indexed.specs.Rules.{rule_of, OrderIn, CountIn}
+use Rattle.indexed.proofs.SpotLaws.{stands}
+use Rattle.join_pairs.specs.declared.Half.{Half}
+use Rattle.join_pairs.specs.Sides.{side_of, sizes_of, own_states}
 use Rattle.join_count.specs.Counts.{SomeCount, LiftsCount}
 use Rattle.join_count.proofs.CountWords.{count-number}
-use Rattle.join_alike.specs.declared.Spot.{Spot}
-use Rattle.join_alike.specs.Spots.{parts_of}
-use Rattle.join_alike.specs.Alike.{rule_of}
-use Rattle.join_alike.proofs.SpotLaws.{stands}
-use Rattle.join_alike.proofs.RuleParts.{order-here, count-here}
 use Rattle.join_alike.proofs.AlikeLaws.{JointOf, texts, tags, contents}
 use Rattle.join_extents.specs.declared.OrderSize.{OrderSize}
 use Rattle.join_extents.specs.declared.CountSize.{CountSize}
@@ -185,17 +181,13 @@ module _ (x : Spot) where
   is-order : {o : Option OrderSize} → o ≡ order_size parts.order → (o ≡ order_size parts.order) × SmallOrder o
   is-order e = (e, subst SmallOrder (sym e) (small-order (sheet_in s).states (rule_of x) (stands x).begins.ranges))
 
-  module _ {r : Bool} (e : r ≡ there_is parts.order) where
-    pub order-there : r ≡ true → {m n : ℕ} → m ≡ get_or s (x.at + 1) 0 → n ≡ get_or s (x.at + 4) 0
-        → (order m n ≡ order_size parts.order) × SmallOrder (order m n)
-    order-there t em en =
-        let (o, i) = is-there parts.order (sym e ∙ t) in
-        let at = order-here x i in
-        let there : x.at + 1 + 3 ≡ x.at + 4 = omega arith in
-        is-order (order_like (em ∙ positions-word at) (en ∙ rw there at (order-room at).1) ∙ ap order_size (sym i))
+  pub order-there : {c : Part} → OrderIn x c → {m n : ℕ} → m ≡ get_or c.words.now c.at 0 → n ≡ get_or c.words.now (c.at + 3) 0
+      → (order m n ≡ order_size parts.order) × SmallOrder (order m n)
+  order-there h em en =
+      is-order (order_like (em ∙ positions-word h.there) (en ∙ (order-room h.there).1) ∙ ap order_size (sym h.has))
 
-    pub order_none : r ≡ false → (None ≡ order_size parts.order) × SmallOrder None
-    order_none t = is-order (ap order_size (sym (not_there parts.order (sym e ∙ t))))
+  pub order_none : parts.order ≡ math.none → (None ≡ order_size parts.order) × SmallOrder None
+  order_none e = is-order (ap order_size (sym e))
 
   pub fixed_text : {m : ℕ} → m ≡ get_or s x.at 0 → m ≡ 33 → 3 ≡ fixed_words (rule_of x)
   fixed_text e f = let (k, q, i) = as_text (rule_of x) (stands x).begins (sym e ∙ f) in ap fixed_words (sym i)
@@ -207,28 +199,24 @@ module _ (x : Spot) where
   fixed_content e f g =
       let v = as_content (rule_of x) (stands x).begins (λ i. f (e ∙ i)) (λ i. g (e ∙ i)) in ap fixed_words (sym v.is)
 
-  -- the count part of a rule of a side
-  module _ (side : code.Side) (n : numbers.Sizes) (h : OfSide side n x) {r : Bool} (e : r ≡ there_is parts.count) where
-    module _ (t : r ≡ true) (c : Part) (here : c.words ≡ x.sheet.words) (at : c.at ≡ x.at + 1 + length (order_part parts.order)) where
-      stands-at : {ss : List Step} → parts.count ≡ math.some ss
-          → CountAt (of_side (side_of side) (sizes_of n)) c.words.now c.at ss
-      stands-at i = rw (here, ← h) (count-here x at i)
+  -- the count part of a rule of a sheet
+  module _ (h : Half) (of : OfSide h x) where
+    module _ {c : Part} (here : CountIn x c) where
+      stands-at : CountAt (own_states h) c.words.now c.at here.steps
+      stands-at = rw (← of, ← here.words) here.there
 
-      pub count_given : SomeCount (of_side (side_of side) (sizes_of n)) c
-      count_given = let (ss, i) = is-there parts.count (sym e ∙ t) in (ss, stands-at i)
+      pub count_given : SomeCount (own_states h) c
+      count_given = (here.steps, stands-at)
 
-      pub count-there : {k l : ℕ} → k ≡ get_or c.words.now c.at 0 → LiftsCount side n c (λ ws. l ≡ length ws) → l ≤ 2 ^ 18
-          → (count k l ≡ lifted_size (side_of side) (sizes_of n) parts.count) × SmallCount (count k l)
+      pub count-there : {k l : ℕ} → k ≡ get_or c.words.now c.at 0 → LiftsCount h c (λ ws. l ≡ length ws) → l ≤ 2 ^ 18
+          → (count k l ≡ lifted_size (side_of h.side) (sizes_of h.sizes) parts.count) × SmallCount (count k l)
       count-there {k} {l} ek long few =
-          let (ss, i) = is-there parts.count (sym e ∙ t) in
-          let steps = ek ∙ sym (count-number (stands-at i)) in
-          let size = count_like (steps ∙ sym (length-map ss (lift_step (side_of side) (sizes_of n) 0))) (long ss (stands-at i)) in (
-            size ∙ ap (lifted_size (side_of side) (sizes_of n)) (sym i),
-            record { steps = omega (arith, steps, (stands-at i).ranges.few_steps); words = omega arith },
+          let ss = here.steps in
+          let steps = ek ∙ sym (count-number stands-at) in
+          let size = count_like (steps ∙ sym (length-map ss (lift_step (side_of h.side) (sizes_of h.sizes) 0))) (long ss stands-at) in (
+            size ∙ ap (lifted_size (side_of h.side) (sizes_of h.sizes)) (sym here.has),
+            record { steps = omega (arith, steps, stands-at.ranges.few_steps); words = omega arith },
           )
 
-    pub count_none : r ≡ false → (None ≡ lifted_size (side_of side) (sizes_of n) parts.count) × SmallCount None
-    count_none t = (
-      ap (lifted_size (side_of side) (sizes_of n)) (sym (not_there parts.count (sym e ∙ t))),
-      record { steps = omega arith; words = omega arith },
-    )
+    pub count_none : parts.count ≡ math.none → (None ≡ lifted_size (side_of h.side) (sizes_of h.sizes) parts.count) × SmallCount None
+    count_none e = (ap (lifted_size (side_of h.side) (sizes_of h.sizes)) (sym e), record { steps = omega arith; words = omega arith })

@@ -1,12 +1,12 @@
 -- How many words a lifted count part has: its own, and each coefficient once more for every further state of the other sheet.
 use mathlib.Core.Path.{◌≡◌, refl, sym, ap, ◌∙◌}
 use mathlib.Core.Bool.{Bool, true, false, cond}
-use mathlib.Core.List.{List, [], ◌∷◌, ◌++◌, map, flat_map}
+use mathlib.Core.List.{List, [], ◌∷◌, ◌++◌, map, flat_map, append-nil}
 use Prim.Native.Nat.{ℕ, zero, suc, ◌+◌, ◌-◌, ◌*◌, ◌≤◌, ◌<◌}
 use native.Mathlib.Nat.{suc-mul, mul-suc}
 use native.Mathlib.Omega.{arith}
 use lib.Dec.{leb, eqb}
-use lib.ListN.{length, get_or, length-append, length-map}
+use lib.ListN.{length, get_or, drop, length-append, length-map, drop_of_length-le}
 use borrow.Author.Tests as tests
 use Rattle.model.specs.Lists.{only, numbers, SetBelow}
 use Rattle.model.specs.Sheet.{W, members, bit, Coefficient, Step, at_most, remainder, not_step, and_step, or_step, marks, signed_word}
@@ -15,14 +15,18 @@ use Rattle.model.specs.Compose.{Side, S, T, Sizes, of_side, of_other, of_pairs, 
 use Rattle.model.specs.Spans.{WordsAt, SumAt, StepAt, CountAt}
 use Rattle.model.proofs.ListLaws.{length-each, length-only, length_from}
 use Rattle.model.proofs.Spans.{word-here, word_next, span_left}
-use Rattle.model.proofs.PartLaws.{PartsLeft, next_part, none_left, each_next, each_none}
+use Rattle.model.proofs.PartLaws.{each_next, each_none}
 use Rattle.page.specs.Page.{repeated, repeated_each}
 use Rattle.parts.specs.Lengths.{sum_length, step_length}
 use Rattle.join_sum.proofs.SumWords.{lifted_times, times_words, times_lifted, sum-long}
 use Rattle.join_pairs.specs.Pairs.{FewPairs}
 use Rattle.join_pairs.proofs.NumberLaws.{mul_le, few_side, few_other}
 use Rattle.join_count.proofs.StepWords.{step_end}
-use Rattle.join_count.proofs.CountWords.{count-number, count-steps}
+use Rattle.join_count.proofs.StepLaws.{no_step}
+use Rattle.join_count.specs.Counts.{StepsOf}
+use Rattle.join_count.specs.Walks.{StepNext, steps_left}
+use Rattle.join_count.specs.declared.Steps.{Steps}
+use Rattle.indexed.specs.declared.Part.{Part}
 use Rattle.join_extents.specs.Extents.{coefficients_at}
 
 -- ---- the coefficients of a lifted sum
@@ -105,14 +109,12 @@ module _ {a : ℕ} {s : List ℕ} (side : Side) (n : Sizes) (few : of_side side 
   longer (and_step i j) h = rw (no_coefficients few h.there (omega arith)) (omega arith)
   longer (or_step i j) h = rw (no_coefficients few h.there (omega arith)) (omega arith)
 
-  -- as the code counts them
-  pub lifted_long : (x : Step) (h : StepAt (of_side side n) s a x)
-      → (length (step_words (of_pairs n) (lift_step side n 0 x)) ≡ step_length s a + coefficients_at s a * m)
-      × (step_length s a ≡ length (step_words (of_side side n) x)) × (a + step_length s a ≤ length s)
-  lifted_long x h =
-      let (end, within) = step_end few x h in
-      let own : step_length s a ≡ length (step_words (of_side side n) x) = omega (arith, end, h.there.ends) in
-      (rw own (longer x h), own, omega (arith, end, within))
+-- the words of a step, by themselves
+alone : {p : ℕ} {ws : List ℕ} (x : Step) → ws ≡ step_words p x → StepInRange p 32 x → StepAt p ws 0 x
+alone {p} {ws} x e h =
+    let stands : ws ≡ step_words p x ++ drop (length ws) ws
+    = rw (drop_of_length-le ws {i = length ws} (omega arith)) (e ∙ sym (append-nil _)) in
+    record { end = length ws; there = record { stands = stands; ends = omega (arith, ap length e) }; ranges = h }
 
 -- ---- by the code's tests
 
@@ -170,56 +172,58 @@ lifting side {n} h {w} e =
 abbrev pub lifted_steps : Side → Sizes → List Step → List ℕ
 lifted_steps side n ss = flat_map (step_words (of_pairs n)) (map (lift_step side n 0) ss)
 
--- k of the N steps of the count part at c are measured, and come to l words with their number; the others begin at i
-pub record Measured (s : List ℕ) (c m N l i k : ℕ) : Type 0 where
-  pub number : N ≡ get_or s c 0
-  pub some : l ≤ 1 + 4101 * k
-  pub left : (side : Side) (n : Sizes) → Lifting side n m → (ss : List Step) → CountAt (of_side side n) s c ss
-      → (rest : List Step) × PartsLeft (step_words (of_side side n)) (StepInRange (of_side side n) 32) s N i k rest
+-- the steps of a count part before those that are left are measured, and come to l words with their number
+pub record Measured (x : Part) (m l : ℕ) (y : Steps) : Type 0 where
+  pub some : l + 4101 * y.left ≤ 1 + 4101 * 32
+  pub left : (side : Side) (n : Sizes) → Lifting side n m → (ss : List Step) → CountAt (of_side side n) x.words.now x.at ss
+      → (rest : List Step) × steps_left (of_side side n) y rest
       × (l + length (lifted_steps side n rest) ≡ 1 + length (lifted_steps side n ss))
 
-pub measure_begun : {s : List ℕ} {c m N i : ℕ} → N ≡ get_or s c 0 → i ≡ c + 1 → Measured s c m N 1 i 0
-measure_begun e f = record {
-  number = e;
-  some = omega arith;
-  left = λ side n h ss at. (ss, record { stand = rw f (count-steps at); number = omega (arith, count-number at) }, refl);
+pub measure_begun : {x : Part} {m p : ℕ} {y : Steps} {ss : List Step} → StepsOf x y.words.now y.at y.left → p ≤ 64
+    → CountAt p x.words.now x.at ss → Measured x m 1 y
+measure_begun {p = p} {ss = ss} h few at = record {
+  some = omega (arith, (h p few ss at).number, at.ranges.few_steps);
+  left = λ side n z ss at. (ss, h (of_side side n) z.few ss at, refl);
 }
 
-module _ {s : List ℕ} {c m N l i k : ℕ} (h : Measured s c m N l i k) where
-  module _ {side : Side} {n : Sizes} (z : Lifting side n m) {ss : List Step} (at : CountAt (of_side side n) s c ss) where
-    -- there are few words, and the next step ends within the words
-    pub measured-few : l ≤ 1 + 4101 * 32
-    measured-few =
-        let (rest, steps, _) = h.left side n z ss at in
-        omega (arith, h.number, h.some, steps.number, count-number at, at.ranges.few_steps)
+module _ {x : Part} {m l : ℕ} {y : Steps} (h : Measured x m l y) where
+  module _ {ws : List ℕ} {y' : Steps} (next : StepNext y ws y') where
+    -- the next step has few words
+    pub step_short : {side : Side} {n : Sizes} → Lifting side n m → {ss : List Step} → CountAt (of_side side n) x.words.now x.at ss
+        → length ws ≤ 69
+    step_short {side} {n} z {ss} at =
+        let (rest, left, _) = h.left side n z ss at in
+        let v = next.first _ rest left in
+        let step = alone v.step v.is v.ranges in
+        let (end, _) = step_end z.few v.step step in
+        omega (arith, step-few ws 0, end, step.there.ends, ap length v.is)
 
-    pub step-within : k < N → i + step_length s i ≤ length s
-    step-within t =
-        let (rest, steps, _) = h.left side n z ss at in
-        let v = next_part rest steps t in
-        (lifted_long side n z.few z.others v.part v.here).2
+    pub measure_more : {coefficients l' : ℕ} → length ws ≤ 69 → coefficients ≡ coefficients_at ws 0 → m ≤ 63
+        → l' ≡ l + (length ws + coefficients * m) → Measured x m l' y'
+    measure_more {coefficients} short ec few el = record {
+      some = omega (
+        arith,
+        h.some,
+        next.fewer,
+        mul_le coefficients m {x = 64} {y = 63} (omega (arith, ec, coefficients-few ws 0)) few,
+      );
+      left = λ side n z ss at.
+          let (rest, left, long) = h.left side n z ss at in
+          let v = next.first _ rest left in
+          let more = longer side n z.few z.others v.step (alone v.step v.is v.ranges) in
+          let after = each_next (step_words (of_pairs n)) (ap (map (lift_step side n 0)) v.split) in
+          let words = step_words (of_pairs n) (lift_step side n 0 v.step) in (
+            v.others,
+            v.left,
+            rw (el, ec)
+                (omega (arith, long, ap length after, length-append words (lifted_steps side n v.others), more, ap length v.is)),
+          );
+    }
 
-  pub measure_more : k < N → {own coefficients l' i' : ℕ} → own ≡ step_length s i → coefficients ≡ coefficients_at s i → m ≤ 63
-      → l' ≡ l + (own + coefficients * m) → i' ≡ i + own → Measured s c m N l' i' (k + 1)
-  measure_more t {own} {coefficients} eo ec few el ei = record {
-    number = h.number;
-    some = omega (arith, h.some, step-few s i, mul_le coefficients m {x = 64} {y = 63} (omega (arith, coefficients-few s i)) few);
-    left = λ side n z ss at.
-        let (rest, steps, long) = h.left side n z ss at in
-        let v = next_part rest steps t in
-        let (more, own_words, _) = lifted_long side n z.few z.others v.part v.here in
-        let next = each_next (step_words (of_pairs n)) (ap (map (lift_step side n 0)) v.split) in
-        let words = step_words (of_pairs n) (lift_step side n 0 v.part) in (
-          v.others,
-          v.further (ei ∙ ap (λ (b : ℕ). i + b) (eo ∙ own_words)),
-          rw (el, eo, ec) (omega (arith, long, ap length next, length-append words (lifted_steps side n v.others), more)),
-        );
-  }
-
-  pub measure_done : N ≤ k → {side : Side} {n : Sizes} → Lifting side n m → (ss : List Step) → CountAt (of_side side n) s c ss
-      → l ≡ length (count_words (of_pairs n) (map (lift_step side n 0) ss))
+  pub measure_done : y.left ≡ 0 → {side : Side} {n : Sizes} → Lifting side n m → (ss : List Step)
+      → CountAt (of_side side n) x.words.now x.at ss → l ≡ length (count_words (of_pairs n) (map (lift_step side n 0) ss))
   unfolding count_words
-  measure_done t {side} {n} z ss at =
-      let (rest, steps, long) = h.left side n z ss at in
-      let none = each_none (step_words (of_pairs n)) (ap (map (lift_step side n 0)) (none_left rest steps t)) in
+  measure_done e {side} {n} z ss at =
+      let (rest, left, long) = h.left side n z ss at in
+      let none = each_none (step_words (of_pairs n)) (ap (map (lift_step side n 0)) (no_step left e)) in
       omega (arith, long, ap length none)

@@ -2,13 +2,12 @@
 use Rattle.std.specs.Prelude.{◌≡◌, cond, List, map, ℕ, ◌+◌, ◌-◌, ◌*◌, ◌^◌, ◌≤◌, leb, length, get_or, Option, Some, None}
 use Rattle.std.proofs.Math.Option as math
 use Rattle.model.specs.Sheet.{Order, Step, Rule, one, two, three, W, members, count_words}
-use Rattle.model.specs.Compose.{Side, Sizes, of_side, of_pairs, lift_step}
+use Rattle.model.specs.Compose.{Side, Sizes, of_pairs, lift_step}
 use Rattle.model.specs.Index.{sheet_in}
-use Rattle.join_pairs.specs.declared.Side as code
-use Rattle.join_pairs.specs.declared.Sizes as numbers
-use Rattle.join_pairs.specs.Sides.{side_of, sizes_of}
-use Rattle.join_alike.specs.declared.Spot.{Spot}
-use Rattle.join_alike.specs.Spots.{parts_of}
+use Rattle.indexed.specs.declared.Spot.{Spot}
+use Rattle.indexed.specs.Spots.{parts_of}
+use Rattle.join_pairs.specs.declared.Half.{Half}
+use Rattle.join_pairs.specs.Sides.{own_states}
 use Rattle.join_extents.specs.declared.OrderSize.{OrderSize}
 use Rattle.join_extents.specs.declared.CountSize.{CountSize}
 use Rattle.join_extents.specs.declared.Extent.{Extent}
@@ -17,9 +16,9 @@ use Rattle.join_extents.specs.declared.Extent.{Extent}
 unfoldable pub coefficients_at : List ℕ → ℕ → ℕ
 coefficients_at s a = cond (leb (get_or s a 0) 2) (length (members 64 (get_or s (a + 1) 0 + get_or s (a + 2) 0 * W))) 0
 
--- x is the spot of a rule of a side's sheet
-abbrev pub OfSide : code.Side → numbers.Sizes → Spot → Type 0
-OfSide side n x = (sheet_in x.sheet.words.now).states ≡ of_side (side_of side) (sizes_of n)
+-- x is the spot of a rule of that sheet
+abbrev pub OfSide : Half → Spot → Type 0
+OfSide h x = (sheet_in x.sheet.words.now).states ≡ own_states h
 
 -- ---- parts
 

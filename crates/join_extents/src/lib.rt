@@ -2,17 +2,18 @@
 #![tactic(auto)]
 
 ghost use Rattle.std.specs.Prelude.{◌≡◌, ◌-◌, ◌^◌, ◌≤◌, length};
-ghost use Rattle.model.specs.Compose.{of_side};
-ghost use Rattle.join_pairs.specs.Sides.{side_of, sizes_of};
+ghost use Rattle.indexed.specs.Spots.{parts_of};
+ghost use Rattle.indexed.specs.Rules.{rule_of};
+ghost use Rattle.join_pairs.specs.Sides.{side_of, sizes_of, own_states};
 ghost use Rattle.join_count.specs.Counts.{SomeCount, LiftsCount};
-ghost use Rattle.join_alike.specs.Spots.{parts_of};
-ghost use Rattle.join_alike.specs.Alike.{rule_of};
 ghost use Rattle.join_extents.specs.Extents.{coefficients_at, OfSide, order_size, lifted_size, extent_of, fixed_words};
-ghost use Rattle.join_extents.specs.Extents.{positions_in, arcs_in, steps_in, words_in, joint_order_size, joint_count_size, joint_extent, words_of};
+ghost use Rattle.join_extents.specs.Extents.{positions_in, arcs_in, steps_in, words_in, words_of};
+ghost use Rattle.join_extents.specs.Extents.{joint_order_size, joint_count_size, joint_extent};
 ghost use Rattle.join_extents.specs.Extents.{SmallOrder, SmallCount, Small, Fits};
 
-use join_alike::Spot;
-use join_pairs::{Part, Side, Sizes};
+use indexed::{Part, Spot};
+use join_count::Steps;
+use join_pairs::{Half, Sizes};
 use layout::{REMAINDER, TAG_RULE, TEXT_RULE};
 use parts::{at, field};
 
@@ -40,32 +41,27 @@ pub struct Extent {
     pub count: Option<CountSize>,
 }
 
-// How many coefficients the step at `a` has.
-fn coefficients_at(words: &[u32], a: usize) -> usize
-    ensures { result ≡ coefficients_at words.now a }
+// How many coefficients a step has.
+fn coefficients(step: &[u32]) -> usize
+    ensures { result ≡ coefficients_at step.now 0 }
 {
-    if REMAINDER < at(words, a) {
+    if REMAINDER < at(step, 0) {
         return 0;
     }
-    let marks = bits::of_words(field(words, a, 1), field(words, a, 2));
+    let marks = bits::of_words(field(step, 0, 1), field(step, 0, 2));
     bits::size(marks) as usize
 }
 
 // The number of words of a count part, lifted: it has each coefficient for every state of the other sheet.
-fn lifted_length(part: Part, side: Side, sizes: Sizes) -> usize
-    requires { SomeCount (of_side (side_of side) (sizes_of sizes)) part }
-    ensures is { LiftsCount side sizes part.entry (λ ws. result ≡ length ws) }
+fn lifted_length(part: Part, half: Half) -> usize
+    requires { SomeCount (own_states half) part }
+    ensures is { LiftsCount half part.entry (λ ws. result ≡ length ws) }
     ensures small { result ≤ 2 ^ 18 }
 {
-    let words = part.words;
-    let more = sizes.other(side) as usize - 1;
-    let n = at(words, part.at);
+    let more = half.other() as usize - 1;
     let mut lifted = 1;
-    let mut i = part.at + 1;
-    for _ in 0..n {
-        let own = parts::step_length(words, i);
-        lifted += own + coefficients_at(words, i) * more;
-        i += own;
+    for step in Steps::of(part) {
+        lifted += step.len() + coefficients(step) * more;
     }
     lifted
 }
@@ -75,42 +71,35 @@ fn order_size(spot: &Spot) -> Option<OrderSize>
     ensures is { result ≡ order_size (parts_of (rule_of spot.now)).order }
     ensures small { SmallOrder result }
 {
-    if spot.has_order() {
-        Some(OrderSize {
-            positions: spot.word(1),
-            arcs: spot.word(4),
-        })
-    } else {
-        None
-    }
+    let part = spot.order_part()?;
+    Some(OrderSize {
+        positions: at(part.words, part.at),
+        arcs: field(part.words, part.at, 3),
+    })
 }
 
 // The size of a rule's count part, lifted, if it has one.
-fn count_size(spot: &Spot, side: Side, sizes: Sizes) -> Option<CountSize>
-    requires { OfSide side sizes spot.now }
-    ensures is { result ≡ lifted_size (side_of side) (sizes_of sizes) (parts_of (rule_of spot.now)).count }
+fn count_size(spot: &Spot, half: Half) -> Option<CountSize>
+    requires { OfSide half spot.now }
+    ensures is { result ≡ lifted_size (side_of half.side) (sizes_of half.sizes) (parts_of (rule_of spot.now)).count }
     ensures small { SmallCount result }
 {
-    if spot.has_count() {
-        let part = spot.count_part();
-        Some(CountSize {
-            steps: at(part.words, part.at),
-            words: lifted_length(part, side, sizes),
-        })
-    } else {
-        None
-    }
+    let part = spot.count_part()?;
+    Some(CountSize {
+        steps: at(part.words, part.at),
+        words: lifted_length(part, half),
+    })
 }
 
 // The extent of a rule of a sheet, its count part lifted.
-pub fn extent_at(spot: &Spot, side: Side, sizes: Sizes) -> Extent
-    requires { OfSide side sizes spot.now }
-    ensures is { result ≡ extent_of (side_of side) (sizes_of sizes) (rule_of spot.now) }
+pub fn extent_at(spot: &Spot, half: Half) -> Extent
+    requires { OfSide half spot.now }
+    ensures is { result ≡ extent_of (side_of half.side) (sizes_of half.sizes) (rule_of spot.now) }
     ensures small { Small result }
 {
     Extent {
         order: order_size(spot),
-        count: count_size(spot, side, sizes),
+        count: count_size(spot, half),
     }
 }
 
@@ -158,6 +147,7 @@ pub fn fixed_words(spot: &Spot) -> usize
     ensures is { result ≡ fixed_words (rule_of spot.now) }
     ensures few { result ≤ 4 }
 {
+    // kept: document 01's form, a match over rule maps
     match spot.map() {
         TEXT_RULE => 3,
         TAG_RULE => 4,

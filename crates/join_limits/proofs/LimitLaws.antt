@@ -1,35 +1,34 @@
 -- Tallies of joint rules: of a list in two parts, of a loop, and what they say of the limits.
-use mathlib.Core.Path.{◌≡◌, refl, sym, ap, ap₂, subst, ◌∙◌}
-use mathlib.Core.Bool.{Bool, true, false, ◌&&◌, and_assoc}
+use mathlib.Core.Path.{◌≡◌, refl, sym, ap, subst, ◌∙◌}
+use mathlib.Core.Bool.{Bool, ◌&&◌, and_assoc}
 use mathlib.Core.List.{List, [], ◌∷◌, ◌++◌, flat_map}
 use Prim.Native.Nat.{ℕ, ◌+◌, ◌≤◌, ◌<◌}
 use native.Mathlib.Omega.{arith}
 use lib.Dec.{leb}
-use lib.ListN.{length, length-append, drop}
+use lib.ListN.{length, length-append}
 use borrow.Author.Tests as tests
-use Rattle.std.specs.Prelude.{Option, Some, None}
+use Rattle.std.specs.Prelude.{Some, None}
 use Rattle.model.specs.Lists.{every}
 use Rattle.model.specs.Sheet.{Rule, rule_words}
-use Rattle.model.specs.Compose.{Sizes, of_pairs, positions_of, arcs_of, steps_of, pair_rule}
+use Rattle.model.specs.Compose.{of_pairs, positions_of, arcs_of, steps_of, pair_rule}
 use Rattle.model.specs.Index.{rules_in}
 use Rattle.model.proofs.ListLaws.{length-each, each_append}
 use Rattle.model.proofs.JoinRange.{pair-rule-count}
 use Rattle.model.proofs.PassedLaws.{in_range}
-use Rattle.limits.specs.declared.Limit.{Limit}
 use Rattle.limits.specs.declared.Limit.TheVariants as limits
-use Rattle.limits.specs.Limits.{first_of, earlier}
+use Rattle.limits.specs.Limits.{earlier}
 use Rattle.limits.proofs.LimitLaws.{earlier_none, earlier_assoc, first_both}
+use Rattle.indexed.specs.Rules.{rule_of}
+use Rattle.join_pairs.specs.declared.Sizes.{Sizes}
+use Rattle.join_pairs.specs.Sides.{sizes_of}
 use Rattle.join_alike.specs.declared.RulePair.{RulePair}
 use Rattle.join_alike.specs.declared.Row.{Row}
-use Rattle.join_alike.specs.declared.IndexedSheet.{IndexedSheet}
-use Rattle.join_alike.specs.declared.Spot.{Spot}
+use Rattle.join_alike.specs.declared.Rows.{Rows}
 use Rattle.join_alike.specs.declared.Pairs.{Pairs}
 use Rattle.join_alike.specs.declared.Sheets.{Sheets}
-use Rattle.join_alike.specs.Joins.{sizes_in}
-use Rattle.join_alike.specs.Alike.{rule_of, pair_sizes, pair_joint, row_sizes, row_joint, joint_left, PairNext, sheets_sizes, sheets_joint}
-use Rattle.join_alike.proofs.AlikeLaws.{rows_from, rows_next}
+use Rattle.join_alike.specs.Alike.{pair_joint, row_joint, joint_left, PairNext, sheets_joint, rows_left, RowNext}
 use Rattle.join_limits.specs.declared.Tally.{Tally}
-use Rattle.join_limits.specs.Limits.{first_in, first_limit, TallyOf, Within}
+use Rattle.join_limits.specs.Limits.{first_in, first_limit, TallyOf}
 
 -- ---- the first limit of a list in two parts
 
@@ -89,46 +88,40 @@ module _ {p : ℕ} {rs : List Rule} {t : Tally} {rest : List Rule} (h : TallyLef
 
 -- ---- a row has at most one joint rule for each rule of T
 
-pub pair-few : (x : RulePair) → length (pair_joint x) ≤ 1
-pair-few x = pair-rule-count (pair_sizes x) (rule_of x.s) (rule_of x.t)
+pair-few : (x : RulePair) → length (pair_joint x) ≤ 1
+pair-few x = pair-rule-count (sizes_of x.sizes) (rule_of x.s) (rule_of x.t)
 
 pub row-few : (r : Row) → length (row_joint r) ≤ 1024
 row-few r =
-    let f = pair_rule (row_sizes r) (rule_of r.rule) in
+    let f = pair_rule (sizes_of r.sizes) (rule_of r.rule) in
     omega (
       arith,
-      length-each f 1 (pair-rule-count (row_sizes r) (rule_of r.rule)) (rules_in r.others.words.now),
+      length-each f 1 (pair-rule-count (sizes_of r.sizes) (rule_of r.rule)) (rules_in r.others.words.now),
       (in_range r.others.indexed.sheet).few_rules,
     )
 
 -- ---- along a row, and along the rows of two sheets
 
 -- the next pair of a row
-module _ {r : Row} {p q : Pairs} {x : RulePair} (e : p.row ≡ r) (h : PairNext p x q) where
-  pub pair_sizes-row : pair_sizes x ≡ row_sizes r
-  pair_sizes-row =
-      ap₂ sizes_in (ap (λ (y : Spot). y.sheet.words.now) (h.rule ∙ ap (λ (z : Row). z.rule) e))
-      (ap (λ (y : IndexedSheet). y.words.now) (h.other ∙ ap (λ (z : Row). z.others) e))
+module _ (r : Row) {p q : Pairs} {x : RulePair} (same : p.sizes ≡ r.sizes) (h : PairNext p x q) {t s : Tally}
+    (left : TallyLeft (of_pairs (sizes_of r.sizes)) (row_joint r) t (joint_left p))
+    (one : TallyOf (of_pairs (sizes_of x.sizes)) (pair_joint x) s) where
+  pub pair-room : t.rules + s.rules ≤ 2048
+  pair-room = omega (arith, left.rules, row-few r, one.rules, pair-few x)
 
-  module _ {t : Tally} (left : TallyLeft (of_pairs (row_sizes r)) (row_joint r) t (joint_left p)) {s : Tally}
-      (one : TallyOf (of_pairs (pair_sizes x)) (pair_joint x) s) where
-    pub pair-room : t.rules + s.rules ≤ 2048
-    pair-room = omega (arith, left.rules, row-few r, one.rules, pair-few x)
+  pub pair_more : {u : Tally} → u.rules ≡ t.rules + s.rules → u.over ≡ earlier t.over s.over → u.words ≡ t.words + s.words
+      → TallyLeft (of_pairs (sizes_of r.sizes)) (row_joint r) u (joint_left q)
+  pair_more er eo ew =
+      tally_more left h.joint (subst (λ (n : Sizes). TallyOf (of_pairs (sizes_of n)) (pair_joint x) s) (h.sizes ∙ same) one) er eo ew
 
-    pub row_more : {u : Tally} → u.rules ≡ t.rules + s.rules → u.over ≡ earlier t.over s.over → u.words ≡ t.words + s.words
-        → (q.row ≡ r) × TallyLeft (of_pairs (row_sizes r)) (row_joint r) u (joint_left q)
-    row_more er eo ew =
-        let same = subst (λ (n : Sizes). TallyOf (of_pairs n) (pair_joint x) s) pair_sizes-row one in
-        (h.row ∙ e, tally_more left h.joint same er eo ew)
-
--- the row of S's rule k
-pub sheets_more : (b : Sheets) {k : ℕ} (r : Row) → k < length (rules_in b.s.words.now) → r.others ≡ b.t → r.rule.sheet ≡ b.s
-    → r.rule.rule ≡ k → {t s u : Tally} → TallyLeft (of_pairs (sheets_sizes b)) (sheets_joint b) t (rows_from b k)
-    → TallyOf (of_pairs (row_sizes r)) (row_joint r) s → u.rules ≡ t.rules + s.rules → u.over ≡ earlier t.over s.over
-    → u.words ≡ t.words + s.words → TallyLeft (of_pairs (sheets_sizes b)) (sheets_joint b) u (rows_from b (k + 1))
-sheets_more b r l eo es ek {s = s} left one er ov ew =
-    let (next, same) = rows_next b r l eo es ek in
-    tally_more left next (subst (λ (n : Sizes). TallyOf (of_pairs n) (row_joint r) s) same one) er ov ew
+-- the next row of two sheets
+module _ (b : Sheets) {p q : Rows} {r : Row} (same : p.sizes ≡ b.sizes) (h : RowNext p r q) {t s : Tally}
+    (left : TallyLeft (of_pairs (sizes_of b.sizes)) (sheets_joint b) t (rows_left p))
+    (one : TallyOf (of_pairs (sizes_of r.sizes)) (row_joint r) s) where
+  pub row_more : {u : Tally} → u.rules ≡ t.rules + s.rules → u.over ≡ earlier t.over s.over → u.words ≡ t.words + s.words
+      → TallyLeft (of_pairs (sizes_of b.sizes)) (sheets_joint b) u (rows_left q)
+  row_more er eo ew =
+      tally_more left h.joint (subst (λ (n : Sizes). TallyOf (of_pairs (sizes_of n)) (row_joint r) s) (h.sizes ∙ same) one) er eo ew
 
 -- ---- the first of all limits
 

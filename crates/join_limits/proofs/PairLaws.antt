@@ -1,7 +1,7 @@
 -- The tally of the joint rule of two rules, by their extents.
-use mathlib.Core.Path.{◌≡◌, refl, sym, ap, ap₂, ◌∙◌}
+use mathlib.Core.Path.{◌≡◌, refl, sym, ap₂, ◌∙◌}
 use mathlib.Core.Bool.{and-true}
-use mathlib.Core.List.{List, [], ◌∷◌, flat_map}
+use mathlib.Core.List.{[], ◌∷◌, flat_map}
 use mathlib.Core.Option.{none, some}
 use Prim.Native.Nat.{ℕ}
 use native.Mathlib.Omega.{arith}
@@ -12,7 +12,9 @@ use Rattle.model.specs.Sheet.{Rule, one, two, three, rule_words}
 use Rattle.model.specs.Compose.{S, T, of_pairs, positions_of, arcs_of, steps_of}
 use Rattle.limits.specs.Limits.{first_of}
 use Rattle.join_alike.specs.declared.RulePair.{RulePair}
-use Rattle.join_alike.specs.Alike.{rule_of, pair_sizes, pair_joint}
+use Rattle.indexed.specs.Rules.{rule_of}
+use Rattle.join_pairs.specs.Sides.{sizes_of}
+use Rattle.join_alike.specs.Alike.{pair_joint}
 use Rattle.join_alike.proofs.AlikeLaws.{alike_paired, paired_rule}
 use Rattle.join_extents.specs.declared.Extent.{Extent}
 use Rattle.join_extents.specs.Extents.{extent_of, extent_in, joint_extent, fixed_words, words_of, positions_in, arcs_in, steps_in}
@@ -41,15 +43,15 @@ unfolding flat_map
 one_long p z = omega (arith, length-append (rule_words p z) [])
 
 -- the extent e of the joint rule of two, as the code finds it, and f of the first rule's words in none of its parts
-pub pair_tallied : (r : RulePair) {e x y : Extent} {f : ℕ} {t : Tally} → e ≡ joint_extent (pair_sizes r) x y
-    → x ≡ extent_of S (pair_sizes r) (rule_of r.s) → y ≡ extent_of T (pair_sizes r) (rule_of r.t) → f ≡ fixed_words (rule_of r.s)
+pub pair_tallied : (r : RulePair) {e x y : Extent} {f : ℕ} {t : Tally} → e ≡ joint_extent (sizes_of r.sizes) x y
+    → x ≡ extent_of S (sizes_of r.sizes) (rule_of r.s) → y ≡ extent_of T (sizes_of r.sizes) (rule_of r.t) → f ≡ fixed_words (rule_of r.s)
     → t.rules ≡ 1 → t.over ≡ first_of (leb (positions_in e.order) 64) (leb (arcs_in e.order) 1024) (leb (steps_in e.count) 32)
-    → t.words ≡ words_of f e → TallyOf (of_pairs (pair_sizes r)) (pair_joint r) t
+    → t.words ≡ words_of f e → TallyOf (of_pairs (sizes_of r.sizes)) (pair_joint r) t
 pair_tallied r {e} ee ex ey ef er eo ew =
     let (z, w) = alike_paired r in
-    let p = of_pairs (pair_sizes r) in
-    let (joint, long) = joint_sized (pair_sizes r) w in
-    let is : e ≡ extent_in p z = ee ∙ ap₂ (joint_extent (pair_sizes r)) ex ey ∙ sym joint in
+    let p = of_pairs (sizes_of r.sizes) in
+    let (joint, long) = joint_sized (sizes_of r.sizes) w in
+    let is : e ≡ extent_in p z = ee ∙ ap₂ (joint_extent (sizes_of r.sizes)) ex ey ∙ sym joint in
     rw (paired_rule w) (record {
       rules = er;
       over = eo ∙ rw is (one_first p z);

@@ -5,7 +5,7 @@ ghost use Rattle.std.specs.Prelude.{◌≡◌, ◌+◌, ◌*◌, ◌^◌, ◌≤
 
 use join_alike::{Row, RulePair, Sheets};
 use join_extents::{Extent, extent_at, fixed_words};
-use join_pairs::{Side, Sizes};
+use join_pairs::Side;
 use limits::{Limit, earlier, first_over};
 
 const MOST_RULES: usize = layout::MOST_RULES as usize;
@@ -23,7 +23,8 @@ impl Tally {
     ghost use Rattle.model.specs.Compose.{S, of_pairs};
     ghost use Rattle.limits.specs.Limits.{earlier};
     ghost use Rattle.join_pairs.specs.Sides.{sizes_of};
-    ghost use Rattle.join_alike.specs.Alike.{rule_of, pair_sizes, pair_joint, row_sizes, row_joint, sheets_sizes, sheets_joint};
+    ghost use Rattle.indexed.specs.Rules.{rule_of};
+    ghost use Rattle.join_alike.specs.Alike.{pair_joint, row_joint, sheets_joint};
     ghost use Rattle.join_extents.specs.Extents.{Small, extent_of};
     ghost use Rattle.join_limits.specs.Limits.{TallyOf, LimitOf};
 
@@ -55,13 +56,13 @@ impl Tally {
     }
 
     // That of the joint rule of two rules, of which S's has the extent `own`.
-    fn of_pair(pair: &RulePair, own: Extent, sizes: Sizes) -> Tally
-        requires sizes { sizes_of sizes ≡ pair_sizes pair.now }
-        requires own { own ≡ extent_of S (sizes_of sizes) (rule_of pair.now.s) }
+    fn of_pair(pair: &RulePair, own: Extent) -> Tally
+        requires own { own ≡ extent_of S (sizes_of pair.now.sizes) (rule_of pair.now.s) }
         requires small { Small own }
-        ensures { TallyOf (of_pairs (pair_sizes pair.now)) (pair_joint pair.now) result }
+        ensures { TallyOf (of_pairs (sizes_of pair.now.sizes)) (pair_joint pair.now) result }
     {
-        let joint = own.joint(extent_at(&pair.t, Side::T, sizes), sizes);
+        let other = extent_at(&pair.t, pair.sizes.half(Side::T));
+        let joint = own.joint(other, pair.sizes);
         Tally {
             rules: 1,
             over: first_over(joint.positions(), joint.arcs(), joint.steps()),
@@ -71,24 +72,23 @@ impl Tally {
 
     // That of the joint rules of a rule of S and the rules of T with its key.
     fn of_row(row: &Row) -> Tally
-        ensures { TallyOf (of_pairs (row_sizes row.now)) (row_joint row.now) result }
+        ensures { TallyOf (of_pairs (sizes_of row.now.sizes)) (row_joint row.now) result }
     {
-        let sizes = row.sizes();
-        let own = extent_at(&row.rule, Side::S, sizes);
+        let own = extent_at(&row.rule, row.sizes.half(Side::S));
         let mut tally = Tally::none();
         for pair in row.pairs() {
-            tally = tally.with(Tally::of_pair(&pair, own, sizes));
+            tally = tally.with(Tally::of_pair(&pair, own));
         }
         tally
     }
 
     // That of the joint rules of two sheets, or the first limit that they exceed.
     pub fn of_sheets(sheets: &Sheets) -> Result<Tally, Limit>
-        ensures { LimitOf (of_pairs (sheets_sizes sheets.now)) (sheets_joint sheets.now) result }
+        ensures { LimitOf (of_pairs (sizes_of sheets.now.sizes)) (sheets_joint sheets.now) result }
     {
         let mut tally = Tally::none();
-        for k in 0..sheets.s.rules() {
-            tally = tally.with(Tally::of_row(&sheets.row(k)));
+        for row in sheets.rows() {
+            tally = tally.with(Tally::of_row(&row));
             if MOST_RULES < tally.rules {
                 return Err(Limit::Rules);
             }

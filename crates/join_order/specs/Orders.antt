@@ -3,13 +3,13 @@ use Rattle.std.specs.Prelude.{◌≡◌, List, map, ℕ, ◌*◌, ◌≤◌}
 use Rattle.model.specs.Lists.{has, numbers, row, grid}
 use Rattle.model.specs.Sheet.{Order, mask, arc_word, arc_of, order_words}
 use Rattle.model.specs.Compose as model
-use Rattle.model.specs.Compose.{of_side, of_other, lift_arc, lift_order, pair_arc, pair_order}
+use Rattle.model.specs.Compose.{of_other, lift_arc, lift_order, pair_arc, pair_order}
 use Rattle.model.specs.Spans.{OrderAt}
-use Rattle.join_pairs.specs.declared.Side.{Side}
+use Rattle.join_pairs.specs.declared.Half.{Half}
 use Rattle.join_pairs.specs.declared.Sizes.{Sizes}
 use Rattle.join_pairs.specs.declared.Both.{Both}
-use Rattle.join_pairs.specs.declared.Part.{Part}
-use Rattle.join_pairs.specs.Sides.{side_of, sizes_of}
+use Rattle.indexed.specs.declared.Part.{Part}
+use Rattle.join_pairs.specs.Sides.{side_of, sizes_of, own_states}
 use Rattle.join_order.specs.declared.OrderPart.{OrderPart}
 
 -- ---- arcs
@@ -43,10 +43,10 @@ pub record PairableOrders (n : Sizes) (x : Both Part) : Type 0 where
   pub few : of_S.positions * of_T.positions ≤ 64
 
 -- what is written of an order part, and of two order parts
-abbrev pub LiftsOrder : Side → Sizes → Part → (List ℕ → Type 0) → Type 0
-LiftsOrder side n x Written =
-    (o : Order) → OrderAt (of_side (side_of side) (sizes_of n)) x.words.now x.at o
-    → Written (order_words (lift_order (side_of side) (sizes_of n) o))
+abbrev pub LiftsOrder : Half → Part → (List ℕ → Type 0) → Type 0
+LiftsOrder h x Written =
+    (o : Order) → OrderAt (own_states h) x.words.now x.at o
+    → Written (order_words (lift_order (side_of h.side) (sizes_of h.sizes) o))
 
 abbrev pub PairsOrders : Sizes → Both Part → (List ℕ → Type 0) → Type 0
 PairsOrders n x Written =

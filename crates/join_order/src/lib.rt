@@ -4,14 +4,14 @@
 ghost use Rattle.std.specs.Prelude.{◌≡◌, [], ◌∷◌, ℕ, ◌+◌, ◌*◌, ◌/◌, ◌%◌, ◌^◌, ◌≤◌};
 ghost use Rattle.model.specs.Lists.{row};
 ghost use Rattle.model.specs.Sheet.{Order, W};
-ghost use Rattle.model.specs.Compose.{of_side};
 ghost use Rattle.model.specs.Spans.{OrderAt};
 ghost use Rattle.page.specs.Page.{Writes};
-ghost use Rattle.join_pairs.specs.Sides.{side_of, sizes_of};
+ghost use Rattle.join_pairs.specs.Sides.{side_of, sizes_of, own_states};
 ghost use Rattle.join_order.specs.Orders.{lifted_row, paired_arc, SomeOrder, PairableOrders, LiftsOrder, PairsOrders, OrderOf};
 
 use bits::Arc;
-use join_pairs::{Both, Part, Side, Sizes, pair};
+use indexed::Part;
+use join_pairs::{Both, Half, Sizes, pair};
 use page::Page;
 use sets::pair_set;
 
@@ -28,12 +28,13 @@ fn arc_word(arc: Arc) -> u32
 }
 
 // Writes an arc once for each state of the other sheet, reading its state beside that one.
-fn lift_row(word: u32, side: Side, sizes: Sizes, page: &mut Page)
-    ensures { Writes page.old (lifted_row (side_of side) (sizes_of sizes) word) page.new }
+// kept: the half tells how it is written, the page where to; a half is copied, a page is lent on and changes
+fn lift_row(word: u32, half: Half, page: &mut Page)
+    ensures { Writes page.old (lifted_row (side_of half.side) (sizes_of half.sizes) word) page.new }
 {
     let arc = Arc::from(word);
-    for other in 0..sizes.other(side) {
-        let reads = sizes.beside(side, arc.reads, other);
+    for other in 0..half.other() {
+        let reads = half.beside(arc.reads, other);
         page.put(arc_word(Arc { reads, ..arc }));
     }
 }
@@ -53,6 +54,7 @@ fn pair_arc(v: u32, w: u32, m: u32, sizes: Sizes) -> u32
 }
 
 // Writes an arc of S paired with each arc of T's part, which has `m` positions.
+// kept: the sizes tell how it is written, the page where to, as in `lift_row`
 fn pair_row(v: u32, arcs: &[u32], m: u32, sizes: Sizes, page: &mut Page)
     requires { m ≤ 64 }
     ensures { Writes page.old (row (paired_arc m sizes.t) arcs.now v) page.new }
@@ -71,6 +73,7 @@ struct OrderPart<'a> {
 }
 
 // The order part that a part is.
+// kept: asks that the part is an order part, as no From can
 #[tactic(auto, using(crate::proofs::OrderWords::order_end))]
 fn order_of(part: Part) -> OrderPart
     requires { (p : ℕ) × SomeOrder p part }
@@ -95,15 +98,15 @@ fn put_head(positions: u32, accepting: u64, arcs: u32, page: &mut Page)
 }
 
 // Writes an order part, lifted.
-pub fn lift_order(part: Part, side: Side, sizes: Sizes, page: &mut Page)
-    requires { SomeOrder (of_side (side_of side) (sizes_of sizes)) part }
-    ensures { LiftsOrder side sizes part.entry (λ ws. Writes page.old ws page.new) }
+pub fn lift_order(part: Part, half: Half, page: &mut Page)
+    requires { SomeOrder (own_states half) part }
+    ensures { LiftsOrder half part.entry (λ ws. Writes page.old ws page.new) }
 {
     let order = order_of(part);
-    let arcs = order.arcs.len() as u32 * sizes.other(side);
+    let arcs = order.arcs.len() as u32 * half.other();
     put_head(order.positions, order.accepting, arcs, page);
     for arc in order.arcs {
-        lift_row(*arc, side, sizes, page);
+        lift_row(*arc, half, page);
     }
 }
 

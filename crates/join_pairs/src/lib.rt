@@ -2,7 +2,7 @@
 #![tactic(auto)]
 
 ghost use Rattle.std.specs.Prelude.{◌≡◌, ◌≤◌};
-ghost use Rattle.model.specs.Compose.{pair, beside, of_other};
+ghost use Rattle.model.specs.Compose.{pair, beside};
 ghost use Rattle.join_pairs.specs.Pairs.{FewPairs};
 
 #[derive(Clone, Copy)]
@@ -16,13 +16,6 @@ pub enum Side {
 pub struct Both<T> {
     pub s: T,
     pub t: T,
-}
-
-// A part of a rule: the words of its sheet, and the index of the part's first word.
-#[derive(Clone, Copy)]
-pub struct Part<'a> {
-    pub words: &'a [u32],
-    pub at: usize,
 }
 
 // The number of a pair, where T has `p` states or positions. Each half may be any number of one byte.
@@ -42,16 +35,11 @@ pub struct Sizes {
 }
 
 impl Sizes {
-    ghost use Rattle.join_pairs.specs.Sides.{side_of, sizes_of};
-
-    // How many states the other sheet has.
-    pub fn other(self, side: Side) -> u32
-        ensures { result ≡ of_other (side_of side) (sizes_of self) }
+    // One of the two sheets.
+    pub fn half(self, side: Side) -> Half
+        ensures { result ≡ record { side = side; sizes = self } }
     {
-        match side {
-            Side::S => self.t,
-            Side::T => self.s,
-        }
+        Half { side, sizes: self }
     }
 
     // The pair of a state of S and a state of T.
@@ -61,15 +49,38 @@ impl Sizes {
     {
         pair(self.t, s, t)
     }
+}
 
-    // The pair of a sheet's state and a state of the other.
-    pub fn beside(self, side: Side, q: u32, other: u32) -> u32
-        requires { (q ≤ 255) × (other ≤ 255) }
-        ensures { (result ≡ beside (side_of side) self.t q other) × (result ≤ 16575) }
+// One of the two sheets, whose state is one half of a pair, and how many states both have.
+#[derive(Clone, Copy)]
+pub struct Half {
+    pub side: Side,
+    pub sizes: Sizes,
+}
+
+impl Half {
+    ghost use Rattle.join_pairs.specs.Sides.{side_of, other_states};
+
+    // How many states the other sheet has.
+    pub fn other(self) -> u32
+        ensures { result ≡ other_states self }
     {
-        match side {
-            Side::S => self.pair(q, other),
-            Side::T => self.pair(other, q),
+        // kept: two cases of an enum, a value of each; no step is run
+        match self.side {
+            Side::S => self.sizes.t,
+            Side::T => self.sizes.s,
+        }
+    }
+
+    // The pair of a state of this sheet and a state of the other.
+    pub fn beside(self, q: u32, other: u32) -> u32
+        requires { (q ≤ 255) × (other ≤ 255) }
+        ensures { (result ≡ beside (side_of self.side) self.sizes.t q other) × (result ≤ 16575) }
+    {
+        // kept: two cases of an enum, a pair of each; no step is run
+        match self.side {
+            Side::S => self.sizes.pair(q, other),
+            Side::T => self.sizes.pair(other, q),
         }
     }
 }

@@ -1,13 +1,13 @@
 -- The words of the joint rules of texts and of tags, and of the rows of joint rules.
-use mathlib.Core.Path.{◌≡◌, refl, sym, ap, ap₂, subst, ◌∙◌}
+use mathlib.Core.Path.{◌≡◌, sym, ap, subst, ◌∙◌}
 use mathlib.Core.List.Memᴰ
 use mathlib.Core.List.{List, [], ◌∷◌, ◌++◌, flat_map}
-use Prim.Native.Nat.{ℕ, ◌+◌, ◌/◌, ◌^◌, ◌≤◌, ◌<◌}
+use Prim.Native.Nat.{ℕ, ◌+◌, ◌<◌}
 use native.Mathlib.Omega.{arith}
 use lib.ListN.{length, get_or}
 use Rattle.model.specs.Sheet.{Rule, rule_words}
 use Rattle.model.specs.Spans.{RuleAt}
-use Rattle.model.specs.Index.{sheet_in, rules_in}
+use Rattle.model.specs.Index.{sheet_in}
 use Rattle.model.specs.Lists.{◌∈◌}
 use Rattle.model.specs.Compose as model
 use Rattle.model.specs.Compose.{pair, of_pairs}
@@ -16,22 +16,20 @@ use Rattle.model.proofs.PartLaws.{word-within, word-is}
 use Rattle.model.proofs.RuleWords.{as_text, as_tag, text_key, tag_key}
 use Rattle.page.specs.Page.{Writes}
 use Rattle.page.specs.declared.Page.{Page}
-use Rattle.page.proofs.PageLaws.{as_words, Left, begun, more, done}
+use Rattle.page.proofs.PageLaws.{as_words, Left, more}
+use Rattle.indexed.proofs.SpotLaws.{stands}
+use Rattle.join_pairs.specs.declared.Sizes.{Sizes}
+use Rattle.join_pairs.specs.Sides.{sizes_of}
 use Rattle.join_pairs.proofs.NumberLaws.{few-S, few-T}
-use Rattle.join_alike.specs.declared.Spot.{Spot}
-use Rattle.join_alike.specs.declared.IndexedSheet.{IndexedSheet}
 use Rattle.join_alike.specs.declared.RulePair.{RulePair}
 use Rattle.join_alike.specs.declared.Row.{Row}
 use Rattle.join_alike.specs.declared.Pairs.{Pairs}
-use Rattle.join_alike.specs.declared.Sheets.{Sheets}
-use Rattle.join_alike.specs.Joins.{sizes_in}
-use Rattle.join_alike.specs.Alike.{rule_of, pair_sizes, pair_joint, row_sizes, row_joint, joint_left, PairNext, sheets_sizes, sheets_joint}
-use Rattle.join_alike.specs.Alike.{FewPositions}
-use Rattle.join_alike.proofs.SpotLaws.{stands}
-use Rattle.join_alike.proofs.AlikeLaws.{JointOf, texts, tags, contents, alike_paired, rows_from, rows_next, rows_done}
+use Rattle.join_alike.specs.declared.Rows.{Rows}
+use Rattle.join_alike.specs.Alike.{pair_joint, row_joint, joint_left, PairNext, rows_left, RowNext, FewPositions}
+use Rattle.join_alike.proofs.AlikeLaws.{JointOf, texts, tags, contents, alike_paired}
 use Rattle.join_contents.specs.Parts.{pair_words}
 use Rattle.join_contents.proofs.ContentLaws.{one_rule}
-use Rattle.join_rules.specs.Written.{word_of, state_in, StatesAt, row_words, words_left, joint_words}
+use Rattle.join_rules.specs.Written.{word_of, state_in, StatesAt, row_words, words_left, rows_words_left}
 
 -- ---- texts and tags
 
@@ -80,7 +78,10 @@ module _ (r : RulePair) where
   small : (k : ℕ) → TwoStates (sheet_in r.s.sheet.words.now).states (sheet_in r.t.sheet.words.now).states r.s.at r.t.at
       r.s.sheet.words.now r.t.sheet.words.now k
       → StatesAt r k
-  small k ((_, s), (_, t)) = record { first = omega (arith, few-S r.few); second = omega (arith, few-T r.few) }
+  small k ((_, s), (_, t)) =
+      let p = ap (λ (n : model.Sizes). n.of_S) r.sized in
+      let q = ap (λ (n : model.Sizes). n.of_T) r.sized in
+      record { first = omega (arith, p, few-S r.sizes.few); second = omega (arith, q, few-T r.sizes.few) }
 
   module _ (e : get_or r.s.sheet.words.now r.s.at 0 ≡ 33) where
     pub text_states : StatesAt r 2
@@ -120,31 +121,28 @@ few_parts l m e few = (
 
 -- ---- rows
 
--- the next pair of a row
-module _ {r : Row} {p q : Pairs} {x : RulePair} (e : p.row ≡ r) (h : PairNext p x q) where
-  pub pair_sizes-row : pair_sizes x ≡ row_sizes r
-  pair_sizes-row =
-      ap₂ sizes_in (ap (λ (y : Spot). y.sheet.words.now) (h.rule ∙ ap (λ (z : Row). z.rule) e))
-      (ap (λ (y : IndexedSheet). y.words.now) (h.other ∙ ap (λ (z : Row). z.others) e))
-
-  pub pair_written : {p₀ g g' : Page} → Left p₀ (row_words r) g (flat_map (rule_words (of_pairs (row_sizes r))) (joint_left p))
-      → Writes g (pair_words x) g' → Left p₀ (row_words r) g' (flat_map (rule_words (of_pairs (row_sizes r))) (joint_left q))
-  pair_written left w =
-      let words = rule_words (of_pairs (row_sizes r)) in
-      let made = ap (λ (n : model.Sizes). flat_map (rule_words (of_pairs n)) (pair_joint x)) pair_sizes-row in
-      more left (ap (flat_map words) h.joint ∙ each_append words (pair_joint x) (joint_left q)) (as_words made w)
+-- the words of the first of the rules that are left
+rules_written : (p : ℕ) {rs : List Rule} (l m : List Rule) → rs ≡ l ++ m → {all : List ℕ} {p₀ g g' : Page}
+    → Left p₀ all g (flat_map (rule_words p) rs) → Writes g (flat_map (rule_words p) l) g' → Left p₀ all g' (flat_map (rule_words p) m)
+rules_written p l m e left w = more left (ap (flat_map (rule_words p)) e ∙ each_append (rule_words p) l m) w
 
 pub words_none : (p : ℕ) {rs : List Rule} → rs ≡ [] → flat_map (rule_words p) rs ≡ []
 unfolding flat_map
 words_none p e = ap (flat_map (rule_words p)) e
 
--- the row of S's rule k
-pub row_written : (b : Sheets) {k : ℕ} (r : Row) → k < length (rules_in b.s.words.now) → r.others ≡ b.t → r.rule.sheet ≡ b.s
-    → r.rule.rule ≡ k → {p₀ g g' : Page} → Left p₀ (joint_words b) g (flat_map (rule_words (of_pairs (sheets_sizes b))) (rows_from b k))
-    → Writes g (row_words r) g'
-    → Left p₀ (joint_words b) g' (flat_map (rule_words (of_pairs (sheets_sizes b))) (rows_from b (k + 1)))
-row_written b {k} r l eo es ek left w =
-    let (next, same) = rows_next b r l eo es ek in
-    let words = rule_words (of_pairs (sheets_sizes b)) in
-    let made = ap (λ (n : model.Sizes). flat_map (rule_words (of_pairs n)) (row_joint r)) same in
-    more left (ap (flat_map words) next ∙ each_append words (row_joint r) (rows_from b (k + 1))) (as_words made w)
+module _ {all : List ℕ} {p₀ g g' : Page} where
+  -- the next pair of a row
+  pub pair_written : {p q : Pairs} {x : RulePair} → PairNext p x q → Left p₀ all g (words_left p) → Writes g (pair_words x) g'
+      → Left p₀ all g' (words_left q)
+  pair_written {p} {q} {x} h left w =
+      let one = as_words (ap (λ (n : Sizes). flat_map (rule_words (of_pairs (sizes_of n))) (pair_joint x)) h.sizes) w in
+      subst (λ (n : Sizes). Left p₀ all g' (flat_map (rule_words (of_pairs (sizes_of n))) (joint_left q))) (sym h.same_sizes)
+      (rules_written (of_pairs (sizes_of p.sizes)) (pair_joint x) (joint_left q) h.joint left one)
+
+  -- the next row
+  pub row_written : {p q : Rows} {r : Row} → RowNext p r q → Left p₀ all g (rows_words_left p) → Writes g (row_words r) g'
+      → Left p₀ all g' (rows_words_left q)
+  row_written {p} {q} {r} h left w =
+      let one = as_words (ap (λ (n : Sizes). flat_map (rule_words (of_pairs (sizes_of n))) (row_joint r)) h.sizes) w in
+      subst (λ (n : Sizes). Left p₀ all g' (flat_map (rule_words (of_pairs (sizes_of n))) (rows_left q))) (sym h.same_sizes)
+      (rules_written (of_pairs (sizes_of p.sizes)) (row_joint r) (rows_left q) h.joint left one)

@@ -3,12 +3,14 @@ use mathlib.Core.List.{List, flat_map}
 use Rattle.std.specs.Prelude.{ℕ, ◌+◌, ◌≤◌, get_or}
 use Rattle.model.specs.Sheet.{rule_words}
 use Rattle.model.specs.Compose.{pair, of_pairs}
-use Rattle.join_alike.specs.declared.Spot.{Spot}
+use Rattle.indexed.specs.declared.Spot.{Spot}
+use Rattle.join_pairs.specs.Sides.{sizes_of}
 use Rattle.join_alike.specs.declared.RulePair.{RulePair}
 use Rattle.join_alike.specs.declared.Row.{Row}
 use Rattle.join_alike.specs.declared.Pairs.{Pairs}
+use Rattle.join_alike.specs.declared.Rows.{Rows}
 use Rattle.join_alike.specs.declared.Sheets.{Sheets}
-use Rattle.join_alike.specs.Alike.{pair_sizes, row_sizes, row_joint, joint_left, sheets_sizes, sheets_joint}
+use Rattle.join_alike.specs.Alike.{row_joint, joint_left, sheets_joint, rows_left}
 
 -- word k of a spot's rule
 abbrev pub word_of : Spot → ℕ → ℕ
@@ -16,18 +18,22 @@ word_of x k = get_or x.sheet.words.now (x.at + k) 0
 
 -- the pair of the states that are word k of two rules, each a number of one byte
 abbrev pub state_in : RulePair → ℕ → ℕ
-state_in r k = pair (pair_sizes r).of_T (word_of r.s k) (word_of r.t k)
+state_in r k = pair r.sizes.t (word_of r.s k) (word_of r.t k)
 
 pub record StatesAt (r : RulePair) (k : ℕ) : Type 0 where
   pub first : word_of r.s k ≤ 255
   pub second : word_of r.t k ≤ 255
 
--- the words of all joint rules of a row, of those of its pairs that are left, and of two sheets
+-- the words of all joint rules of a row, and of those of its pairs that are left
 abbrev pub row_words : Row → List ℕ
-row_words r = flat_map (rule_words (of_pairs (row_sizes r))) (row_joint r)
+row_words r = flat_map (rule_words (of_pairs (sizes_of r.sizes))) (row_joint r)
 
 abbrev pub words_left : Pairs → List ℕ
-words_left p = flat_map (rule_words (of_pairs (row_sizes p.row))) (joint_left p)
+words_left p = flat_map (rule_words (of_pairs (sizes_of p.sizes))) (joint_left p)
 
+-- those of all joint rules of two sheets, and of their rows that are left
 abbrev pub joint_words : Sheets → List ℕ
-joint_words b = flat_map (rule_words (of_pairs (sheets_sizes b))) (sheets_joint b)
+joint_words b = flat_map (rule_words (of_pairs (sizes_of b.sizes))) (sheets_joint b)
+
+abbrev pub rows_words_left : Rows → List ℕ
+rows_words_left p = flat_map (rule_words (of_pairs (sizes_of p.sizes))) (rows_left p)

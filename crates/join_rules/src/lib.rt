@@ -17,7 +17,7 @@ fn joint_state(rules: &RulePair, k: usize) -> u32
     requires { StatesAt rules.now k }
     ensures { result ≡ state_in rules.now k }
 {
-    rules.sizes().pair(rules.s.word(k), rules.t.word(k))
+    rules.sizes.pair(rules.s.word(k), rules.t.word(k))
 }
 
 // Writes the joint rule of two rules of a text: its kind and the pair of the targets.
@@ -46,6 +46,7 @@ fn put_pair(rules: &RulePair, page: &mut Page)
     requires { FewPositions (pair_joint rules.now) }
     ensures { Writes page.old (pair_words rules.now) page.new }
 {
+    // kept: document 01's form, a match over rule maps
     match rules.s.map() {
         TEXT_RULE => put_texts(rules, page),
         TAG_RULE => put_tags(rules, page),
@@ -68,7 +69,7 @@ pub fn put_rules(sheets: &Sheets, page: &mut Page)
     requires { FewPositions (sheets_joint sheets.now) }
     ensures { Writes page.old (joint_words sheets.now) page.new }
 {
-    for k in 0..sheets.s.rules() {
-        put_row(&sheets.row(k), page);
+    for row in sheets.rows() {
+        put_row(&row, page);
     }
 }

@@ -7,18 +7,15 @@ use native.Mathlib.Omega.{arith}
 use lib.ListN.{length, get_or, take, drop, length-drop}
 use lib.Seq.{take-length}
 use Rattle.model.specs.Lists.{has, only, numbers}
-use Rattle.model.specs.Sheet.{Sheet, W, mask, set_words, sheet_words}
-use Rattle.model.specs.Compose.{swapped, joint}
-use Rattle.model.specs.Index.{sheet_in, Passes}
+use Rattle.model.specs.Sheet.{Sheet, Rule, W, mask, set_words, rule_words, sheet_words}
+use Rattle.model.specs.Compose.{swapped, Sizes, of_pairs, joint_rules, joint}
+use Rattle.model.specs.Index.{sheet_in, rules_in, Passes}
 use Rattle.model.proofs.Tests.{Told, yea, nay, told}
 use Rattle.model.proofs.ListLaws.{∈-has, has_no, ∈_filter}
 use Rattle.model.proofs.SetWords.{bit_mask}
 use Rattle.model.proofs.PassedLaws.{coded, in_range, states-word, final-words, tags-word}
 use Rattle.bits.proofs.BitLaws.{mask_like}
-use Rattle.page.specs.Page.{Writes}
-use Rattle.page.specs.declared.Page.{Page}
 use Rattle.sets.specs.Sets.{complement, pair_set}
-use Rattle.page.proofs.PageLaws.{then, as_words}
 use Rattle.sets.proofs.SetLaws.{few_pairs, pairs_mask}
 use Rattle.join_alike.specs.declared.Sheets.{Sheets}
 use Rattle.join_rules.specs.Written.{joint_words}
@@ -61,32 +58,41 @@ swapped-words_in {s} ok ex ek er =
 
 -- ---- join: the words before the rules
 
-module _ (b : Sheets) {p q : ℕ} (ep : p ≡ (sheet_in b.s.words.now).states) (eq : q ≡ (sheet_in b.t.words.now).states) where
-  states_product : p * q ≡ (joint_of b).states
-  unfolding joint
-  states_product = ap₂ (◌*◌) ep eq
+module _ (b : Sheets) where
+  states_S : b.sizes.s ≡ (sheet_in b.s.words.now).states
+  states_S = ap (λ (n : Sizes). n.of_S) b.sized
 
-  pub product_small : p * q ≤ 64
+  states_T : b.sizes.t ≡ (sheet_in b.t.words.now).states
+  states_T = ap (λ (n : Sizes). n.of_T) b.sized
+
+  states_product : b.sizes.s * b.sizes.t ≡ (joint_of b).states
   unfolding joint
-  product_small = omega (arith, states_product, b.few.few)
+  states_product = ap₂ (◌*◌) states_S states_T
+
+  pub product_small : b.sizes.s * b.sizes.t ≤ 64
+  product_small = b.sizes.few.few
 
   -- a pair is final if both are
   pub finals_paired : {x y set : ℕ} → x ≡ get_or b.s.words.now 2 0 + get_or b.s.words.now 3 0 * W
-      → y ≡ get_or b.t.words.now 2 0 + get_or b.t.words.now 3 0 * W → set ≡ pair_set p q x y → set ≡ final_of b
+      → y ≡ get_or b.t.words.now 2 0 + get_or b.t.words.now 3 0 * W → set ≡ pair_set b.sizes.s b.sizes.t x y → set ≡ final_of b
   unfolding joint
   finals_paired ex ey e =
       let s = sheet_in b.s.words.now in
       let t = sheet_in b.t.words.now in
       let sets = ap₂ (pair_set s.states t.states) (ex ∙ final-words b.s.indexed.sheet) (ey ∙ final-words b.t.indexed.sheet) in
-      e ∙ rw (ep, eq) sets
-      ∙ few_pairs s.states t.states (mask s.states (has s.final)) (mask t.states (has t.final)) b.few.few
-      ∙ pairs_mask (in_range b.s.indexed.sheet).final (in_range b.t.indexed.sheet).final b.few.some_T
+      let few : s.states * t.states ≤ 64 = rw (← states_S, ← states_T) product_small in
+      e ∙ rw (states_S, states_T) sets
+      ∙ few_pairs s.states t.states (mask s.states (has s.final)) (mask t.states (has t.final)) few
+      ∙ pairs_mask (in_range b.s.indexed.sheet).final (in_range b.t.indexed.sheet).final (in_range b.t.indexed.sheet).some_states
 
   pub head_words_in : {set g n : ℕ} → set ≡ final_of b → g ≡ get_or b.s.words.now 4 0
-      → (1 ∷ p * q ∷ []) ++ ((set % W ∷ set / W ∷ []) ++ (g ∷ n ∷ [])) ≡ head_words b n
+      → (1 ∷ b.sizes.s * b.sizes.t ∷ []) ++ ((set % W ∷ set / W ∷ []) ++ (g ∷ n ∷ [])) ≡ head_words b n
   unfolding head_words joint
   head_words_in es eg = rw (states_product, es, eg ∙ tags-word b.s.indexed.sheet) refl
 
 pub joint-words_in : (b : Sheets) {n : ℕ} → WithinLimits b n → head_words b n ++ joint_words b ≡ sheet_words (joint_of b)
 unfolding head_words sheet_words set_words joint
-joint-words_in b h = ap (λ (m : ℕ). head_words b m ++ joint_words b) h.number
+joint-words_in b h =
+    let joint_by : Sizes → List Rule = λ n. joint_rules n (rules_in b.s.words.now) (rules_in b.t.words.now) in
+    ap (λ (k : ℕ). head_words b k ++ joint_words b) h.number
+    ∙ ap (λ (n : Sizes). head_words b (length (joint_by n)) ++ flat_map (rule_words (of_pairs n)) (joint_by n)) b.sized

@@ -34,14 +34,14 @@ fn joint_finals(sheets: &Sheets) -> u64
 {
     let s = set_at(sheets.s.words, FINAL);
     let t = set_at(sheets.t.words, FINAL);
-    pair_set(sheets.s.states(), sheets.t.states(), s, t)
+    pair_set(sheets.sizes.s, sheets.sizes.t, s, t)
 }
 
 // Writes the words of a joint sheet that come before its rules, of which there are `rules`.
 fn put_head(sheets: &Sheets, rules: u32, page: &mut Page)
     ensures { Writes page.old (head_words sheets.now rules) page.new }
 {
-    let states = sheets.s.states() * sheets.t.states();
+    let states = sheets.sizes.s * sheets.sizes.t;
     page.copy(&[EDITION, states]);
     page.put_set(joint_finals(sheets));
     page.copy(&[at(sheets.s.words, TAGS), rules]);

@@ -4,7 +4,7 @@
 ghost use Rattle.page.specs.Page.{Writes};
 ghost use Rattle.join_sum.specs.Sums.{LiftsSum};
 
-use join_pairs::{Side, Sizes};
+use join_pairs::{Half, Side};
 use page::Page;
 use sets::{ALL, pair_set};
 
@@ -18,10 +18,12 @@ pub struct Sum<'a> {
 // Writes a sum, lifted: the pairs whose half is marked, the other half any state, then for each of these pairs, in ascending order,
 // the coefficient of its half. The pairs of a state of S are a row, one for each state of T: a coefficient of S is written that
 // often in a row, and all those of T in each row.
-pub fn lift_sum(sum: Sum, side: Side, sizes: Sizes, page: &mut Page)
-    ensures { LiftsSum side sizes sum.entry (λ ws. Writes page.old ws page.new) }
+pub fn lift_sum(sum: Sum, half: Half, page: &mut Page)
+    ensures { LiftsSum half sum.entry (λ ws. Writes page.old ws page.new) }
 {
-    match side {
+    let sizes = half.sizes;
+    // kept: two cases of an enum, whose words lie in two ways: in a row, and once in each row
+    match half.side {
         Side::S => {
             page.put_set(pair_set(sizes.s, sizes.t, sum.marks, ALL));
             page.repeat_each(sum.times, sizes.t);

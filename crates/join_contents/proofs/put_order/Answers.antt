@@ -1,50 +1,28 @@
 -- `put_order` meets its contract: one answer for each of the four cases.
-use mathlib.Core.Path.{refl}
-use Rattle.join_contents.proofs.ContentLaws.{states-S, states-T, order-there, orders_paired, order-S_lifted, order-T_lifted, no_orders}
-use Rattle.join_contents.proofs.ContentLaws.{orders_pairable}
+use Rattle.page.specs.Page.{Writes}
+use Rattle.page.proofs.PageLaws.{nothing}
+use Rattle.join_contents.proofs.ContentLaws.{orders_pairable, orders_paired, order-S_lifted, order-T_lifted, no_orders}
 use Rattle.join_contents.proofs.put_order.Goals as goal
 
 pub pair_order-requires : goal.pair_order-requires
-pair_order-requires c =
-    orders_pairable c.args.rules.now c.sizes-sizes.result c.sizes-sizes.ensures c.order_part-s.result c.order_part-t.result
-    c.order_part-s.ensures.words c.order_part-t.ensures.words c.order_part-s.ensures.at
-    c.order_part-t.ensures.at
-    c.in-true-true.ensures c.in-true-true.ensures' c.requires refl refl
+pair_order-requires c = orders_pairable c.args.rules.now c.requires c.in-Some-Some.ensures c.in-Some-Some.ensures'
 
-pub lift_order-requires : goal.lift_order-requires
-lift_order-requires c =
-    order-there c.args.rules.now.s (states-S c.args.rules.now c.sizes-sizes.result c.sizes-sizes.ensures) c.order_part-s.result
-    c.order_part-s.ensures.words c.order_part-s.ensures.at c.in-true-false.ensures refl
+pub returns-in-Some-Some : goal.returns-in-Some-Some
+returns-in-Some-Some c =
+    orders_paired c.args.rules.now (λ ws. Writes c.args.page.now ws c.pair_order.new.page) c.in-Some-Some.ensures c.in-Some-Some.ensures'
+    c.pair_order.ensures
 
-pub lift_order-requires-in-false-true : goal.lift_order-requires-in-false-true
-lift_order-requires-in-false-true c =
-    order-there c.args.rules.now.t (states-T c.args.rules.now c.sizes-sizes.result c.sizes-sizes.ensures) c.order_part-t.result
-    c.order_part-t.ensures.words c.order_part-t.ensures.at c.in-false-true.ensures' refl
+pub returns-in-Some-None : goal.returns-in-Some-None
+returns-in-Some-None c =
+    order-S_lifted c.args.rules.now (λ ws. Writes c.args.page.now ws c.lift_order.new.page) c.in-Some-None.ensures c.in-Some-None.ensures'
+    (rw c.half.ensures at c.lift_order.ensures)
 
-pub returns-in-true-true : goal.returns-in-true-true
-returns-in-true-true c =
-    orders_paired c.args.rules.now c.sizes-sizes.result c.sizes-sizes.ensures c.order_part-s.result c.order_part-t.result
-    c.order_part-s.ensures.words c.order_part-t.ensures.words c.order_part-s.ensures.at
-    c.order_part-t.ensures.at
-    c.in-true-true.ensures c.in-true-true.ensures' refl refl c.pair_order.ensures
+pub returns-in-None-Some : goal.returns-in-None-Some
+returns-in-None-Some c =
+    order-T_lifted c.args.rules.now (λ ws. Writes c.args.page.now ws c.lift_order-in-None-Some.new.page) c.in-None-Some.ensures
+    c.in-None-Some.ensures' (rw c.half-in-None-Some.ensures at c.lift_order-in-None-Some.ensures)
 
-pub returns-in-true-false : goal.returns-in-true-false
-returns-in-true-false c =
-    order-S_lifted c.args.rules.now c.sizes-sizes.result c.sizes-sizes.ensures c.order_part-s.result c.order_part-t.result
-    c.order_part-s.ensures.words c.order_part-t.ensures.words c.order_part-s.ensures.at
-    c.order_part-t.ensures.at
-    c.in-true-false.ensures c.in-true-false.ensures' refl refl c.lift_order.ensures
-
-pub returns-in-false-true : goal.returns-in-false-true
-returns-in-false-true c =
-    order-T_lifted c.args.rules.now c.sizes-sizes.result c.sizes-sizes.ensures c.order_part-s.result c.order_part-t.result
-    c.order_part-s.ensures.words c.order_part-t.ensures.words c.order_part-s.ensures.at
-    c.order_part-t.ensures.at
-    c.in-false-true.ensures c.in-false-true.ensures' refl refl c.lift_order-in-false-true.ensures
-
-pub returns-in-false-false : goal.returns-in-false-false
-returns-in-false-false c =
-    no_orders c.args.rules.now c.sizes-sizes.result c.sizes-sizes.ensures c.order_part-s.result c.order_part-t.result
-    c.order_part-s.ensures.words c.order_part-t.ensures.words c.order_part-s.ensures.at
-    c.order_part-t.ensures.at
-    c.in-false-false.ensures c.in-false-false.ensures' c.args.page.now refl refl
+pub returns-in-None-None : goal.returns-in-None-None
+returns-in-None-None c =
+    let page = c.args.page.now in
+    no_orders c.args.rules.now (λ ws. Writes page ws page) c.in-None-None.ensures c.in-None-None.ensures' (nothing page)

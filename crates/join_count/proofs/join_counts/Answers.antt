@@ -16,24 +16,26 @@ small : {p a : ℕ} {s : List ℕ} {ss : List Step} {m : ℕ} → CountAt p s a 
 small h e = (omega (arith, count-number h, h.ranges.some_steps), omega (arith, count-number h, h.ranges.few_steps))
 
 pub overflow_add-m : goal.overflow_add-m
-overflow_add-m c = search (small c.requires.0.1 c.at-m.ensures, small c.requires.1.1 c.at-n.ensures, rules)
+overflow_add-m c = search (small c.requires.0.1 c.step_count-m.ensures, small c.requires.1.1 c.step_count-n.ensures, rules)
 
 pub overflow_add-m-2 : goal.overflow_add-m-2
-overflow_add-m-2 c = search (small c.requires.0.1 c.at-m.ensures, small c.requires.1.1 c.at-n.ensures, rules)
+overflow_add-m-2 c = search (small c.requires.0.1 c.step_count-m.ensures, small c.requires.1.1 c.step_count-n.ensures, rules)
 
 pub invariant_of-of_t : goal.invariant_of-of_t
-invariant_of-of_t c = search (small c.requires.0.1 c.at-m.ensures, rules)
+invariant_of-of_t c = search (small c.requires.0.1 c.step_count-m.ensures, rules)
 
 pub overflow_sub-m : goal.overflow_sub-m
-overflow_sub-m c = search (small c.requires.0.1 c.at-m.ensures, rules)
+overflow_sub-m c = search (small c.requires.0.1 c.step_count-m.ensures, rules)
 
 pub overflow_sub-n : goal.overflow_sub-n
-overflow_sub-n c = search (small c.requires.1.1 c.at-n.ensures, rules)
+overflow_sub-n c = search (small c.requires.1.1 c.step_count-n.ensures, rules)
 
 pub overflow_add-m-3 : goal.overflow_add-m-3
-overflow_add-m-3 c = search (small c.requires.0.1 c.at-m.ensures, small c.requires.1.1 c.at-n.ensures, rules)
+overflow_add-m-3 c = search (small c.requires.0.1 c.step_count-m.ensures, small c.requires.1.1 c.step_count-n.ensures, rules)
 
 pub returns : goal.returns
 returns c = λ ss ts h k.
-    as_words (joint-count-words _ ss ts (count-number h ∙ sym c.at-m.ensures) (count-number k ∙ sym c.at-n.ensures))
-    (then c.put.ensures (then (c.put_steps.ensures ss h) (then (c.put_steps-2.ensures ts k) c.copy.ensures)))
+    let of_s = rw c.half.ensures at c.put_steps.ensures in
+    let of_t = rw c.half-2.ensures at c.put_steps-2.ensures in
+    as_words (joint-count-words _ ss ts (count-number h ∙ sym c.step_count-m.ensures) (count-number k ∙ sym c.step_count-n.ensures))
+    (then c.put.ensures (then (of_s ss h) (then (of_t ts k) c.copy.ensures)))

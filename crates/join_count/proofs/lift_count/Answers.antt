@@ -6,4 +6,4 @@ use Rattle.join_count.proofs.lift_count.Goals as goal
 
 pub returns : goal.returns
 returns c = λ ss h.
-    as_words (lifted_count-words _ _ ss (count-number h ∙ sym c.at.ensures)) (then c.put.ensures (c.put_steps.ensures ss h))
+    as_words (lifted_count-words _ _ ss (count-number h ∙ sym c.step_count.ensures)) (then c.put.ensures (c.put_steps.ensures ss h))

@@ -2,10 +2,12 @@
 use Rattle.join_extents.proofs.ExtentLaws.{order-there, order_none}
 use Rattle.join_extents.proofs.order_size.Goals as goal
 
-pub returns-then-has_order-clause-is : goal.returns-then-has_order-clause-is
-returns-then-has_order-clause-is c =
-    (order-there c.args.spot.now c.has_order.ensures c.if-has_order.true c.word.ensures c.word-then-has_order.ensures).0
+pub returns-in_err-part : goal.returns-in_err-part
+returns-in_err-part c =
+    let (is, small) = order_none c.args.spot.now c.in_err-part.ensures in
+    rw c.from_residual.ensures (record { is = is; small = small })
 
-pub returns-then-has_order-clause-small : goal.returns-then-has_order-clause-small
-returns-then-has_order-clause-small c =
-    (order-there c.args.spot.now c.has_order.ensures c.if-has_order.true c.word.ensures c.word-then-has_order.ensures).1
+pub returns : goal.returns
+returns c =
+    let (is, small) = order-there c.args.spot.now c.in_ok-part.ensures c.at.ensures c.field.ensures in
+    record { is = is; small = small }

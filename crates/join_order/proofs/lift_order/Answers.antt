@@ -11,12 +11,12 @@ overflow_cast-arcs c = let (o, h) = c.requires in search (few_arcs (c.order_of-o
 pub overflow_mul-arcs : goal.overflow_mul-arcs
 overflow_mul-arcs c =
     let (o, h) = c.requires in
-    search (lifted_few (side_of c.args.side) c.args.sizes.few (c.order_of-order.ensures _ o h) h.ranges c.other.ensures, rules)
+    search (lifted_few (side_of c.args.half.side) c.args.half.sizes.few (c.order_of-order.ensures _ o h) h.ranges c.other.ensures, rules)
 
 pub loop-arc-preserved : goal.loop-arc-preserved
 loop-arc-preserved c = search (more, grid-next, rest_next, rules)
 
 pub returns : goal.returns
 returns c = λ o h.
-    as_words (lifted_order-words _ c.args.sizes.few (c.order_of-order.ensures _ o h) h.ranges c.other.ensures)
+    as_words (lifted_order-words _ c.args.half.sizes.few (c.order_of-order.ensures _ o h) h.ranges c.other.ensures)
     (then c.put_head.ensures (search (done, grid_none, rest_none, rules)))

@@ -7,5 +7,5 @@ use Rattle.join_order.proofs.lift_order.Given as goal
 
 abbrev pub invariant-loop-arc : goal.invariant-loop-arc
 invariant-loop-arc l =
-    let lifted = lifted_grid (side_of l.side) (sizes_of l.sizes) in
+    let lifted = lifted_grid (side_of l.half.side) (sizes_of l.half.sizes) in
     Left l.initial.page (lifted l.arc-items) l.page (lifted (drop l.arc-index l.arc-items))

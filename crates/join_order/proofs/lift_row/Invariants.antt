@@ -8,6 +8,6 @@ use Rattle.join_order.proofs.lift_row.Given as goal
 
 abbrev pub invariant-loop-other : goal.invariant-loop-other
 invariant-loop-other l =
-    let side = side_of l.side in
-    let n = sizes_of l.sizes in
+    let side = side_of l.half.side in
+    let n = sizes_of l.half.sizes in
     Left l.initial.page (lifted_row side n l.word) l.page (row (lifted_arc side n) (from (l.other-end - l.other) l.other) l.word)

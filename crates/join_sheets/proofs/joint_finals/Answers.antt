@@ -4,4 +4,4 @@ use Rattle.join_sheets.proofs.joint_finals.Goals as goal
 
 pub returns : goal.returns
 returns c =
-    finals_paired c.args.sheets.now c.states.ensures c.states-2.ensures c.set_at-s.ensures c.set_at-t.ensures c.pair_set.ensures
+    finals_paired c.args.sheets.now c.set_at-s.ensures c.set_at-t.ensures c.pair_set.ensures

@@ -5,9 +5,9 @@ use Rattle.join_sheets.proofs.SheetWords.{product_small, head_words_in}
 use Rattle.join_sheets.proofs.put_head.Goals as goal
 
 pub overflow_mul-states : goal.overflow_mul-states
-overflow_mul-states c = omega (arith, product_small c.args.sheets.now c.states.ensures c.states-2.ensures)
+overflow_mul-states c = omega (arith, product_small c.args.sheets.now)
 
 pub returns : goal.returns
 returns c =
-    as_words (head_words_in c.args.sheets.now c.states.ensures c.states-2.ensures c.joint_finals.ensures c.at.ensures)
+    as_words (head_words_in c.args.sheets.now c.joint_finals.ensures c.at.ensures)
     (then c.copy.ensures (then c.put_set.ensures c.copy-2.ensures))

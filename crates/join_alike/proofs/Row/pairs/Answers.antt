@@ -1,11 +1,7 @@
--- `pairs` meets its contract: the index tells the first rule with the key.
-use mathlib.Core.Path.{refl}
-use Rattle.join_alike.proofs.AlikeLaws.{row_begun}
+-- `pairs` meets its contract: the rules with the rule's key make all joint rules of the row.
+use Rattle.model.specs.Index.{rules_in}
+use Rattle.join_alike.proofs.AlikeLaws.{alike_all}
 use Rattle.join_alike.proofs.Row.pairs.Goals as goal
 
-pub invariant_of-result : goal.invariant_of-result
-invariant_of-result c =
-    record { on_chain = (row_begun c.args.self.now c.key.ensures.is c.key.ensures.few c.at.ensures refl).0 }
-
 pub returns-clause-all : goal.returns-clause-all
-returns-clause-all c = (row_begun c.args.self.now c.key.ensures.is c.key.ensures.few c.at.ensures refl).1
+returns-clause-all c = rw c.chain.ensures.all (alike_all _ _ c.key.ensures.is (rules_in c.args.self.now.others.words.now))

@@ -1,51 +1,46 @@
 -- `put_steps` meets its contract.
-use mathlib.Core.Path.{refl, ap, ◌∙◌}
+use mathlib.Core.Path.{refl, ap}
 use mathlib.Core.List.{map}
-use Prim.Native.Nat.{◌+◌}
-use native.Mathlib.Omega.{arith}
-use Rattle.model.proofs.PartLaws.{next_part, none_left, each_next, each_none}
+use Rattle.model.proofs.PartLaws.{each_next, each_none}
 use Rattle.page.proofs.PageLaws.{begun, more, done}
-use Rattle.join_count.proofs.StepWords.{few_states, step_end, step_of, step_within}
-use Rattle.join_count.proofs.CountWords.{count-there, count-number, count-steps}
-use borrow.Author.Rules.{rules}
+use Rattle.join_count.specs.Steps.{StepOf}
+use Rattle.join_count.proofs.StepWords.{few_states}
+use Rattle.join_count.proofs.StepLaws.{no_step}
 use Rattle.join_count.proofs.Lift.put_steps.Goals as goal
 
-pub overflow_add-i : goal.overflow_add-i
-overflow_add-i c = search (count-there c.requires.1, rules)
+pub of-step-items-requires : goal.of-step-items-requires
+of-step-items-requires c = (_, few_states c.args.self, c.requires)
 
-pub loop-init : goal.loop-init
-loop-init c = λ ss h. (ss, record { stand = count-steps h; number = omega (arith, count-number h, c.at-end.ensures) }, begun refl)
-
-pub overflow_add-end : goal.overflow_add-end
-overflow_add-end c =
-    let (rest, left, _) = c.loop.invariant _ c.requires.1 in
-    search (step_within c.args.self left c.loop-test.true, rules)
-
-pub offset_bounds-words-i : goal.offset_bounds-words-i
-offset_bounds-words-i c =
-    let (rest, left, _) = c.loop.invariant _ c.requires.1 in
-    search (step_within c.args.self left c.loop-test.true, rules)
-
-pub slice_bounds-put_step-end : goal.slice_bounds-put_step-end
-slice_bounds-put_step-end c =
-    let (rest, left, _) = c.loop.invariant _ c.requires.1 in
-    search (step_within c.args.self left c.loop-test.true, rules)
+pub loop-step-init : goal.loop-step-init
+loop-step-init c = (
+  tt,
+  tt,
+  λ ss h.
+      let all = c.of-step-items.ensures _ (few_states c.args.self) ss h in
+      (ss, rw c.into_iter-step-iterator.ensures.into_iter_gives all, begun refl),
+)
 
 pub put_step-requires : goal.put_step-requires
 put_step-requires c =
-    let (rest, left, _) = c.loop.invariant _ c.requires.1 in
-    let v = next_part rest left c.loop-test.true in
-    (v.part, step_of c.args.self v.part v.here c.step_length.ensures)
+    let (_, _, inv) = c.loop-step.invariant in
+    let (rest, left, _) = inv _ c.requires.1 in
+    let v = c.in-Some.ensures.steps.first _ rest left in
+    (v.step, record { is = v.is; ranges = v.ranges })
 
-pub loop-preserved : goal.loop-preserved
-loop-preserved c = λ ss h.
-    let (rest, left, page) = c.loop.invariant ss h in
-    let v = next_part rest left c.loop-test.true in
-    let step = step_of c.args.self v.part v.here c.step_length.ensures in
-    let past = ap (λ n. c.loop.i + n) c.step_length.ensures ∙ (step_end (few_states c.args.self) v.part v.here).0 ∙ v.here.there.ends in
-    (v.others, v.further past, more page (each_next _ (ap (map _) v.split)) (c.put_step.ensures _ step))
+pub loop-step-preserved : goal.loop-step-preserved
+loop-step-preserved c =
+    let (_, _, inv) = c.loop-step.invariant in (
+      tt,
+      tt,
+      λ ss h.
+          let (rest, left, page) = inv ss h in
+          let v = c.in-Some.ensures.steps.first _ rest left in
+          let step : StepOf c.args.self _ v.step = record { is = v.is; ranges = v.ranges } in
+          (v.others, v.left, more page (each_next _ (ap (map _) v.split)) (c.put_step.ensures _ step)),
+    )
 
 pub returns : goal.returns
 returns c = λ ss h.
-    let (rest, left, page) = c.loop.invariant ss h in
-    done page (each_none _ (ap (map _) (none_left rest left c.loop-test.false)))
+    let (_, _, inv) = c.loop-step.invariant in
+    let (rest, left, page) = inv ss h in
+    done page (each_none _ (ap (map _) (no_step left c.in-None.ensures.steps)))

@@ -1,10 +1,14 @@
 -- `of_pair` meets its contract: the numbers of the joint rule are made of those of the two.
-use mathlib.Core.Path.{refl}
+use mathlib.Core.Path.{refl, sym, ap}
+use Rattle.model.specs.Compose.{Sizes}
 use Rattle.join_limits.proofs.PairLaws.{pair_tallied}
 use Rattle.join_limits.proofs.Tally.of_pair.Goals as goal
 
+pub extent_at-other-requires : goal.extent_at-other-requires
+extent_at-other-requires c = rw c.half.ensures (sym (ap (λ (n : Sizes). n.of_T) c.args.pair.now.sized))
+
 pub returns : goal.returns
 returns c =
-    let sizes = c.requires.sizes in
-    pair_tallied c.args.pair.now (rw sizes at c.joint-joint.ensures.is) (rw sizes at c.requires.own) (rw sizes at c.extent_at.ensures.is)
+    let other = rw c.half.ensures at c.extent_at-other.ensures.is in
+    pair_tallied c.args.pair.now c.joint-joint.ensures.is c.requires.own other
     c.fixed_words.ensures.is refl (rw (c.positions.ensures, c.arcs.ensures, c.steps.ensures) at c.first_over.ensures) c.words.ensures.is

@@ -1,6 +1,0 @@
--- `has_count` meets its contract: the map tells the parts.
-use Rattle.join_alike.proofs.RuleParts.{with_count}
-use Rattle.join_alike.proofs.Spot.has_count.Goals as goal
-
-pub returns : goal.returns
-returns c = with_count c.args.self.now c.map.ensures c.has_count.ensures
