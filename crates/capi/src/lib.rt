@@ -1,6 +1,7 @@
 // The calls for C: slices of bytes and 32-bit words, and answers as numbers. Each call returns the kind of its answer, and hands
 // the kind and the two values over in a lent array of 64-bit words. An array that is too short for them gets as many as fit, so a
 // caller who lends none loses the values and nothing else.
+// kept: C lends each call its buffers one by one, so that they stand side by side in its parameters, and in those of the call behind it
 #![tactic(auto, using(capi_lent::proofs::LentLaws::kind_handed))]
 
 ghost use Rattle.std.specs.Prelude.{◌≡◌};

@@ -5,8 +5,6 @@
 mod lines;
 mod run;
 
-use cases_store::store::Store;
-
 const STDIN: i32 = 0;
 
 const INPUT_BYTES: usize = 98_304;
@@ -14,6 +12,5 @@ const INPUT_BYTES: usize = 98_304;
 fn main(rt: HostRuntime) {
     let mut text = [0; INPUT_BYTES];
     let n = io::read_full(STDIN, &mut text);
-    let mut store = Store::new();
-    lines::all(&rt, &mut store, &text[..n]);
+    lines::all(&rt, &text[..n]);
 }

@@ -1,7 +1,6 @@
 // What is printed: lines, answers, and lent buffers.
 #![tactic(auto)]
 
-use cases_scan::part;
 use model::{Refusal, Verdict};
 
 const STDOUT: i32 = 1;
@@ -41,23 +40,23 @@ pub fn after_answer(comment: &[u8]) {
 
 // ---- answers
 
-// The line that is put into a lent array, but for the byte that ends it.
-fn said<F: FnOnce(&mut [u8; line::MOST_BYTES]) -> usize>(put: F)
-    requires { F.IsAlwaysCallable put }
-{
-    let mut out = [0; line::MOST_BYTES];
-    let n = put(&mut out);
-    bytes(part(&out, 0, n.saturating_sub(1)));
+// A line without the byte that ends it.
+fn said(line: &[u8]) {
+    bytes(line.strip_suffix(b"\n").unwrap_or(line));
 }
 
 // Gives how much of the lent buffer the answer counts, too.
 pub fn answer(answer: Result<usize, Refusal>) -> usize {
-    said(|out| line::of_answer(answer, out));
+    let mut out = [0; line::MOST_BYTES];
+    let n = line::of_answer(answer, &mut out);
+    said(&out[..n]);
     answer.unwrap_or(0)
 }
 
 pub fn judgement(judgement: Result<Verdict, Refusal>) {
-    said(|out| line::of_judgement(judgement, out));
+    let mut out = [0; line::MOST_BYTES];
+    let n = line::of_judgement(judgement, &mut out);
+    said(&out[..n]);
 }
 
 // ---- buffers: of words, or of bytes

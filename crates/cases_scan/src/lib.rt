@@ -7,24 +7,6 @@ pub mod tokens;
 #[derive(Clone, Copy)]
 pub struct Unreadable;
 
-// ---- slices
-
-// The element at an index, 0 past the end.
-pub fn at<T: Copy + Default>(items: &[T], i: usize) -> T {
-    items.get(i).copied().unwrap_or_default()
-}
-
-// The part from an index up to another, or an empty one where there is no such part.
-pub fn part<T>(items: &[T], from: usize, to: usize) -> &[T] {
-    items.get(from..to).unwrap_or_default()
-}
-
-// The first n elements, or all of them.
-pub fn front<T>(buffer: &mut [T], n: usize) -> &mut [T] {
-    let n = n.min(buffer.len());
-    &mut buffer[..n]
-}
-
 // ---- words
 
 // Whether a byte is one of a word's: a letter, a digit, a hyphen, a dot, an underscore.
@@ -52,9 +34,5 @@ pub fn in_one_line(byte: &u8, next: &u8) -> bool {
 pub fn split_name(line: &[u8]) -> Option<(&[u8], &[u8])> {
     let (name, rest) = split_word(line);
     let named = rest.strip_prefix(b" = ")?;
-    if at(name, 0).is_ascii_uppercase() {
-        Some((name, named))
-    } else {
-        None
-    }
+    name.first()?.is_ascii_uppercase().then_some((name, named))
 }

@@ -2,7 +2,7 @@
 ghost use Rattle.std.specs.Prelude.{◌≡◌, ◌≤◌, ◌<◌, length, MatchOption};
 ghost use Rattle.std.specs.Iterator.{at_most};
 
-use crate::{Unreadable, in_word, part};
+use crate::{Unreadable, in_word};
 
 // ---- texts
 
@@ -82,7 +82,9 @@ impl<'a> Tokens<'a> {
             .position(|byte| !test(*byte))
             .ok_or(Unreadable)?;
         self.rest = &self.rest[n..];
-        Ok(part(start, 0, start.len().saturating_sub(self.rest.len())))
+        start
+            .get(..start.len().saturating_sub(self.rest.len()))
+            .ok_or(Unreadable)
     }
 
     fn number(&mut self, start: &'a [u8]) -> Result<u32, Unreadable>
@@ -100,6 +102,7 @@ impl<'a> Tokens<'a> {
     {
         let text = Text { written: self.rest };
         let mut end = text;
+        // kept: `for _ in end.by_ref() {}` was tried, and the proof that `rest` gets no longer didn't close: nothing is known of `end` then
         while end.next().is_some() {}
         self.rest = end.written.strip_prefix(b"\"").ok_or(Unreadable)?;
         Ok(text)

@@ -2,4 +2,5 @@
 #![tactic(auto)]
 
 pub mod buffers;
+pub mod filled;
 pub mod store;

@@ -35,11 +35,11 @@ impl<'a> TryFrom<&'a [u8]> for Call {
     }
 }
 
-// Which value of a call is the room of the buffer that it is lent, by what that is a buffer of.
+// What the buffer holds that a call is lent.
 #[derive(Clone, Copy)]
-pub enum Room {
-    Words(usize),
-    Bytes(usize),
+pub enum Buffer {
+    Words,
+    Bytes,
 }
 
 impl Call {
@@ -53,13 +53,14 @@ impl Call {
         }
     }
 
-    // The room of the buffer that the call is lent, if it is lent one.
-    pub fn room(self) -> Option<Room> {
+    // The buffer that the call is lent, if it is lent one; its room is the call's last value.
+    pub fn buffer(self) -> Option<Buffer> {
         match self {
             Call::Names | Call::Verdict | Call::Tree | Call::Sheet => None,
-            Call::SheetFromFile | Call::Swap => Some(Room::Words(1)),
-            Call::Read | Call::Judge | Call::Join => Some(Room::Words(2)),
-            Call::Write => Some(Room::Bytes(3)),
+            Call::SheetFromFile | Call::Swap | Call::Read | Call::Judge | Call::Join => {
+                Some(Buffer::Words)
+            }
+            Call::Write => Some(Buffer::Bytes),
         }
     }
 }

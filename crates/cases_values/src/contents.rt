@@ -1,12 +1,11 @@
 // What a line has after its name, if it has one.
 use crate::calls::Call;
-use crate::values::{Values, read_values};
-use cases_scan::{Unreadable, at, split_word};
-use cases_store::store::Store;
+use crate::values::{Evaluator, Values};
+use cases_scan::{Unreadable, split_word};
 use std::rt::Files;
 
 // A call, its values, and the comment behind them.
-#[derive(Clone, Copy)]
+#[derive(Drop)]
 pub struct Case<'a> {
     pub call: Call,
     pub values: Values<'a>,
@@ -14,15 +13,9 @@ pub struct Case<'a> {
 }
 
 impl<'a> Case<'a> {
-    fn read<R: Files>(
-        rt: &R,
-        store: &mut Store,
-        written: &'a [u8],
-    ) -> Result<Case<'a>, Unreadable> {
-        let (name, written) = split_word(written);
-        let call = Call::try_from(name)?;
-        let values = read_values(rt, store, written)?;
-        if values.count != call.value_count() {
+    // A call with as many values as it takes, and with a comment.
+    fn new(call: Call, values: Values<'a>) -> Result<Case<'a>, Unreadable> {
+        if values.parts.len() != call.value_count() {
             return Err(Unreadable);
         }
         let comment = values.comment.ok_or(Unreadable)?;
@@ -34,24 +27,20 @@ impl<'a> Case<'a> {
     }
 }
 
-#[derive(Clone, Copy)]
+#[derive(Drop)]
 pub enum Content<'a> {
     Value,
     Case(Case<'a>),
 }
 
-impl<'a> Content<'a> {
+impl<R: Files> Evaluator<'_, '_, '_, R> {
     // The value or case that is written, with its words on top of the store.
-    pub fn read<R: Files>(
-        rt: &R,
-        store: &mut Store,
-        written: &'a [u8],
-    ) -> Result<Content<'a>, Unreadable> {
-        if at(written, 0).is_ascii_lowercase() {
-            return Ok(Content::Case(Case::read(rt, store, written)?));
+    pub fn content<'w>(&mut self, written: &'w [u8]) -> Result<Content<'w>, Unreadable> {
+        let (word, rest) = split_word(written);
+        if let Ok(call) = Call::try_from(word) {
+            return Ok(Content::Case(Case::new(call, self.values(rest)?)?));
         }
-        let values = read_values(rt, store, written)?;
-        if values.count != 1 {
+        if self.values(written)?.parts.len() != 1 {
             return Err(Unreadable);
         }
         Ok(Content::Value)

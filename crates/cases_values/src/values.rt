@@ -1,55 +1,19 @@
 // The values of a line: the words of items, put on top of the store.
+use cases_scan::Unreadable;
 use cases_scan::tokens::{Item, Token, Tokens};
-use cases_scan::{Unreadable, at, part};
 use cases_store::buffers::MOST;
+use cases_store::filled::Filled;
 use cases_store::store::{Part, Store};
 use std::rt::Files;
 
 // The most values of a line.
-const MOST_VALUES: usize = 4;
+pub const MOST_VALUES: usize = 4;
 
-// ---- items, put on top of the store
-
-// The words of a named value; or their bytes, where `.bytes` follows its name.
-fn push_named(store: &mut Store, word: &[u8]) -> Result<(), Unreadable> {
-    match word.strip_suffix(b".bytes") {
-        Some(name) => store.push_bytes_of(store.find(name)?),
-        None => store.push_again(store.find(word)?),
-    }
-}
-
-// The bytes of a file.
-fn push_file<R: Files>(rt: &R, store: &mut Store, path: &[u8]) -> Result<(), Unreadable> {
-    let mut bytes = [0; MOST];
-    let n = files::front(rt, path, &mut bytes);
-    store.extend(part(&bytes, 0, n).iter().copied())
-}
-
-fn push_item<R: Files>(rt: &R, store: &mut Store, item: Item) -> Result<(), Unreadable> {
-    match item {
-        Item::Number(n) => store.push(n),
-        Item::Text(text) => store.extend(text),
-        Item::Name(word) => push_named(store, word),
-        Item::File(path) => push_file(rt, store, path),
-    }
-}
-
-// ---- values
-
-#[derive(Clone, Copy)]
+// The values of a line, where their words are in the store, and the line from its first comment on.
+#[derive(Drop)]
 pub struct Values<'a> {
-    // how many values there are, and the words of each; there is no heap
-    pub count: usize,
-    parts: [Part; MOST_VALUES],
-    // the line from its first comment on
+    pub parts: Filled<Part, MOST_VALUES>,
     pub comment: Option<&'a [u8]>,
-}
-
-impl Values<'_> {
-    // The words of a value, by its number from 0 on; none where there is no such value.
-    pub fn words<'s>(&self, store: &'s Store, k: usize) -> &'s [u32] {
-        store.words(at(&self.parts, k))
-    }
 }
 
 // The values that are read so far, and where the next value, the last item and the open group begin.
@@ -65,8 +29,7 @@ impl<'a> Reading<'a> {
     fn new(top: usize) -> Reading<'a> {
         Reading {
             values: Values {
-                count: 0,
-                parts: [Part::default(); MOST_VALUES],
+                parts: Filled::new(),
                 comment: None,
             },
             start: top,
@@ -80,10 +43,7 @@ impl<'a> Reading<'a> {
         if self.group.is_some() {
             return Err(Unreadable);
         }
-        let count = self.values.count;
-        let part = store.part_from(self.start);
-        *self.values.parts.get_mut(count).ok_or(Unreadable)? = part;
-        self.values.count = count + 1;
+        self.values.parts.push(store.part_from(self.start))?;
         self.start = store.top();
         Ok(())
     }
@@ -106,20 +66,19 @@ impl<'a> Reading<'a> {
 
     fn take<R: Files>(
         &mut self,
-        rt: &R,
-        store: &mut Store,
+        evaluator: &mut Evaluator<'_, '_, '_, R>,
         token: Token<'a>,
     ) -> Result<(), Unreadable> {
         match token {
             Token::Item(item) => {
-                self.item = store.top();
-                push_item(rt, store, item)
+                self.item = evaluator.store.top();
+                evaluator.push_item(item)
             }
-            Token::Times(n) => store.repeat(self.item, n),
-            Token::Over(n) => store.shift(self.item, (n & 0xff) as u8),
-            Token::Open => self.open(store.top()),
+            Token::Times(n) => evaluator.store.repeat(self.item, n),
+            Token::Over(n) => evaluator.store.shift(self.item, (n & 0xff) as u8),
+            Token::Open => self.open(evaluator.store.top()),
             Token::Close => self.close(),
-            Token::Comma => self.end(store),
+            Token::Comma => self.end(&evaluator.store),
             Token::Comment(comment) => {
                 self.values.comment = self.values.comment.or(Some(comment));
                 Ok(())
@@ -128,16 +87,51 @@ impl<'a> Reading<'a> {
     }
 }
 
-// The values that are written, with their words on top of the store.
-pub fn read_values<'a, R: Files>(
-    rt: &R,
-    store: &mut Store,
-    written: &'a [u8],
-) -> Result<Values<'a>, Unreadable> {
-    let mut reading = Reading::new(store.top());
-    for token in Tokens::new(written) {
-        reading.take(rt, store, token?)?;
+// The system, whose files are read, and the store, on top of which the words of values are put.
+#[derive(Drop)]
+pub struct Evaluator<'r, 's, 'a, R> {
+    pub rt: &'r R,
+    pub store: Store<'s, 'a>,
+}
+
+impl<R: Files> Evaluator<'_, '_, '_, R> {
+    // The words of a named value; or their bytes, where `.bytes` follows its name.
+    fn push_named(&mut self, word: &[u8]) -> Result<(), Unreadable> {
+        match word.strip_suffix(b".bytes") {
+            Some(name) => {
+                let part = self.store.find(name)?;
+                self.store.push_bytes_of(part)
+            }
+            None => {
+                let part = self.store.find(word)?;
+                self.store.push_again(part)
+            }
+        }
     }
-    reading.end(store)?;
-    Ok(reading.values)
+
+    // The bytes of a file.
+    fn push_file(&mut self, path: &[u8]) -> Result<(), Unreadable> {
+        let mut bytes = [0; MOST];
+        let n = files::front(self.rt, path, &mut bytes);
+        self.store.extend(bytes[..n].iter().copied())
+    }
+
+    fn push_item(&mut self, item: Item) -> Result<(), Unreadable> {
+        match item {
+            Item::Number(n) => self.store.push(n),
+            Item::Text(text) => self.store.extend(text),
+            Item::Name(word) => self.push_named(word),
+            Item::File(path) => self.push_file(path),
+        }
+    }
+
+    // The values that are written.
+    pub fn values<'w>(&mut self, written: &'w [u8]) -> Result<Values<'w>, Unreadable> {
+        let mut reading = Reading::new(self.store.top());
+        for token in Tokens::new(written) {
+            reading.take(self, token?)?;
+        }
+        reading.end(&self.store)?;
+        Ok(reading.values)
+    }
 }

@@ -19,6 +19,7 @@ pub const LINE_BYTES: usize = line::MOST_BYTES;
 
 // The checks from the text on, by a list of `names` names and a sheet that both pass: text, 20, run. A tree that was read has
 // at most MOST_NODES nodes and keeps its shape, so neither 22 nor 10 can come up.
+// kept: the list and the text are C's, lent one by one; the sheet is a local array, and its fact was told by the call before
 fn judge_form(list: &[u8], names: usize, sheet: &[u32], text: &[u8]) -> Result<Verdict, Refusal>
     requires names { names_of list.now ≡ passes names }
     requires sheet { Passes sheet.now }
@@ -37,6 +38,7 @@ fn judge_form(list: &[u8], names: usize, sheet: &[u32], text: &[u8]) -> Result<V
 
 // The verdict on a form, by a name list and the bytes of a sheet's file; or the first refusal of 8, 9, the text's (1 to 7),
 // 20 and 23. The sheet, the tree and the states stand in local arrays that are large enough for all that passes.
+// kept: C lends the three files one by one
 pub fn check(list: &[u8], file: &[u8], text: &[u8]) -> Result<Verdict, Refusal>
     ensures { said_judgement result ≡ formcheck list.now file.now text.now }
 {
@@ -47,6 +49,7 @@ pub fn check(list: &[u8], file: &[u8], text: &[u8]) -> Result<Verdict, Refusal>
 }
 
 // The line that formcheck prints of a name list, the bytes of a sheet's file and a form goes to the front of `out`; its number of bytes.
+// kept: the files are those of `check`
 pub fn line(list: &[u8], file: &[u8], text: &[u8], out: &mut [u8; LINE_BYTES]) -> usize
     ensures bytes { result ≡ length (formcheck_line list.now file.now text.now) }
     ensures out { out.new ≡ formcheck_line list.now file.now text.now

@@ -25,7 +25,10 @@ pub slice_bounds-sheet-end : goal.slice_bounds-sheet-end
 slice_bounds-sheet-end c = omega (arith, (sheet-counted _ _ (c.from_file.ensures.answer, c.from_file.ensures.buffer) c.in_ok-n.was).few)
 
 pub slice_bounds-judge_form-end : goal.slice_bounds-judge_form-end
-slice_bounds-judge_form-end c = sym (length-take-le _ _ (omega (arith, (sheet-counted _ _ (c.from_file.ensures.answer, c.from_file.ensures.buffer) c.in_ok-n.was).few)))
+slice_bounds-judge_form-end c = sym (length-take-le _ _ (omega (
+  arith,
+  (sheet-counted _ _ (c.from_file.ensures.answer, c.from_file.ensures.buffer) c.in_ok-n.was).few,
+)))
 
 pub judge_form-requires-clause-names : goal.judge_form-requires-clause-names
 judge_form-requires-clause-names c = names-counted _ c.check.ensures c.in_ok-names.was

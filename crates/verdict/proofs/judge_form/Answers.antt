@@ -44,5 +44,6 @@ slice_bounds-judge-end c = sym (length-take-le _ _ (omega (
 pub returns : goal.returns
 returns c = λ file from. let names = c.requires.names in
     c.judge.ensures.answer
-    ∙ form_judged _ _ names file c.requires.sheet from (tree_counted _ _ names _ (c.read.ensures.answer, c.read.ensures.buffer) c.in_ok-n.was)
+    ∙ form_judged _ _ names file c.requires.sheet from
+    (tree_counted _ _ names _ (c.read.ensures.answer, c.read.ensures.buffer) c.in_ok-n.was)
     refl c.if-names-tags.false _ (omega arith)

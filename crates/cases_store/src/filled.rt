@@ -1,0 +1,63 @@
+// Arrays that are filled from the front.
+ghost use Rattle.std.specs.Prelude.{◌≤◌};
+ghost use Rattle.std.specs.Iterator.{IsFinite};
+
+use cases_scan::Unreadable;
+
+// At most N elements, in an array of that size.
+// kept: no heap; the toolchain's ArrayVec would be the first crate beside std and io that this repository stands on
+#[derive(Drop)]
+pub struct Filled<T, const N: usize> {
+    items: [T; N],
+    len: usize,
+    ghost within: { len ≤ N },
+}
+
+impl<T: Copy + Default, const N: usize> Filled<T, N> {
+    pub fn new() -> Filled<T, N> {
+        Filled {
+            items: [T::default(); N],
+            len: 0,
+        }
+    }
+
+    pub fn len(&self) -> usize {
+        self.len
+    }
+
+    pub fn as_slice(&self) -> &[T] {
+        &self.items[..self.len]
+    }
+
+    // Adds an element, where there is room.
+    pub fn push(&mut self, item: T) -> Result<(), Unreadable> {
+        if self.len == N {
+            return Err(Unreadable);
+        }
+        self.items[self.len] = item;
+        self.len += 1;
+        Ok(())
+    }
+
+    // Drops the last element, and gives it.
+    pub fn pop(&mut self) -> Option<T> {
+        self.len = self.len.checked_sub(1)?;
+        Some(self.items[self.len])
+    }
+
+    // Adds elements, as far as there is room.
+    pub fn extend<I: Iterator<Item = T> + Drop>(&mut self, items: I) -> Result<(), Unreadable>
+        requires can { I.can_next items }
+        requires ends { IsFinite (I.remaining items) }
+    {
+        for item in items {
+            self.push(item)?;
+        }
+        Ok(())
+    }
+
+    // Drops the elements from an index on.
+    pub fn truncate(&mut self, len: usize) {
+        self.len = self.len.min(len);
+    }
+}
