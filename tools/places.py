@@ -140,7 +140,9 @@ def travelling():
             for clause in re.findall(r"requires(?: \w+)? \{(.*?)\}\n", f.clauses, re.S):
                 for part in clause.split("×"):
                     clauses[" ".join(part.split()).strip("() ")].append(where)
-            for pair in zip(f.parameters, f.parameters[1:]):
+            # a method's own value and what it is given are no pair that travels
+            given = [parameter for parameter in f.parameters if not parameter.endswith("self")]
+            for pair in zip(given, given[1:]):
                 pairs[", ".join(pair)].append(where)
     for what, where in sorted(list(clauses.items()) + list(pairs.items())):
         if len(where) >= 3:
