@@ -5,7 +5,7 @@ ghost use Rattle.std.specs.Iterator.{IsFinite};
 use cases_scan::Unreadable;
 
 // At most N elements, in an array of that size.
-// kept: no heap; the toolchain's ArrayVec would be the first crate beside std and io that this repository stands on
+// kept: no heap, so a length stands beside the array; no plainer by the toolchain's ArrayVec, in one more crate to read
 #[derive(Drop)]
 pub struct Filled<T, const N: usize> {
     items: [T; N],

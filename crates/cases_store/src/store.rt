@@ -89,6 +89,7 @@ impl<'s, 'a> Store<'s, 'a> {
 
     // The words of a part once more.
     pub fn push_again(&mut self, part: Part) -> Result<(), Unreadable> {
+        // kept: a word is found by its index, since the store is pushed to while it is read; a slice of it would stay borrowed
         for i in part.from..part.to {
             self.push(self.word(i)?)?;
         }
@@ -97,6 +98,7 @@ impl<'s, 'a> Store<'s, 'a> {
 
     // The bytes of the words of a part, each word's lowest first.
     pub fn push_bytes_of(&mut self, part: Part) -> Result<(), Unreadable> {
+        // kept: as in `push_again`
         for i in part.from..part.to {
             self.extend(self.word(i)?.to_le_bytes().into_iter())?;
         }

@@ -51,7 +51,7 @@ fn put_order(rules: &RulePair, page: &mut Page)
 }
 
 // Writes the joint count part of two rules, if there is one.
-// kept: one function for both, over the two writers, took seven clauses: what each asks and leaves in each arm, at any page lent to it
+// kept: tried: one function for both, over the two writers, took seven clauses where these have one or two, and three goals stayed open
 fn put_count(rules: &RulePair, page: &mut Page)
     ensures { Writes page.old (count_in rules.now) page.new }
 {

@@ -99,7 +99,7 @@ impl Lift {
         ensures { LiftsStep self step.now (λ ws. Writes page.old ws page.new) }
     {
         let kind = step[0];
-        // kept: document 01's kinds are numbers, the first two are of sums; the other three are written alike
+        // kept: document 01's kinds are numbers: 1 and 2 are steps with a sum, 3 to 5 have numbers of steps alone and are written alike
         if kind <= REMAINDER {
             self.put_sum_step(step, page);
             return;

@@ -36,7 +36,7 @@ fn word(kind: Kind) -> &'static [u8]
 }
 
 // The bytes of a line so far.
-// kept: the toolchain's ArrayVec would be the first crate beside std and io that the product stands on, for one line of 51 bytes
+// kept: no plainer by the toolchain's ArrayVec: as many methods, over a type whose model a reader would look up in one more crate
 #[derive(Drop)]
 struct Line {
     bytes: [u8; MOST_BYTES],

@@ -52,7 +52,7 @@ pub fn measure(sources: &Sources) -> Result<usize, Refusal>
 {
     let nodes = sources.nodes();
     let mut bytes = 0;
-    // kept: nodes are found by number in the words, and 11 names the number; a try_fold would hold the same sum and test in a closure
+    // kept: nodes are found by number in the words, and refusal 11 has it as its place; try_fold would hide the same sum and test
     for i in 0..nodes {
         bytes += own_bytes(sources, sources.node(i)).ok_or(Refusal::TextWords(i))?;
     }
