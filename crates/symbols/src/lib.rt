@@ -43,7 +43,7 @@ impl From<u32> for Symbol {
 }
 
 // The symbol of a text of a kind.
-// kept: the orphan rule has no From<TextKind> for u32 here, and one for Symbol would say one word of tag 65 and of an integer text
+// kept: From<TextKind> for u32 belongs to another crate; with From<Symbol>, Tag(65) and an integer text would give one word, 65
 pub fn of_text(kind: TextKind) -> u32
     ensures { symbol_of result ≡ of_text (text_kind kind) }
 {
