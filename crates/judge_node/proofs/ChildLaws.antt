@@ -7,12 +7,13 @@ use Prim.Native.Nat.{ℕ, ◌+◌, ◌-◌, ◌*◌, ◌≤◌, ◌<◌, zero, s
 use native.Mathlib.Decide.{dec_le}
 use native.Mathlib.Numerals.{add-one}
 use native.Mathlib.Omega.{arith}
-use lib.ListN.{length, get_or, take, set, length-set, drop}
+use lib.ListN.{length, get_or, take, set, length-set, drop, length-drop}
 use lib.Seq.{take-suc-set}
 use Rattle.model.specs.Lists.{has}
 use Rattle.model.specs.Run.{Item, items, child_words}
 use Rattle.model.proofs.Tests.{eqb-false}
-use Rattle.judge_node.specs.Node.{Sized, words_between}
+use Rattle.model.specs.Tree.{size_at}
+use Rattle.judge_node.specs.Node.{Sized, words_between, words_inside}
 use Rattle.judge_node.specs.ChildWords.{words_of}
 use Rattle.judge_node.proofs.NodeLaws.{sized, words_done, words_more}
 use Rattle.judge_node.specs.declared.children.ChildWords.{ChildWords}
@@ -56,17 +57,30 @@ few_words c =
       c.nodes.shaped.few,
     )
 
+-- and as there are state words
+words-fewer : (n k : ℕ) (xs : List Item) (st : List ℕ) → length (child_words n k xs st) ≤ length st
+unfolding child_words
+words-fewer zero k xs st = omega arith
+words-fewer (suc n) k [] st = omega arith
+words-fewer (suc n) k (x ∷ xs) [] = omega arith
+words-fewer (suc n) zero (x ∷ xs) (s ∷ st) = omega (arith, words-fewer n (x.size - 1) xs st)
+words-fewer (suc n) (suc k) (x ∷ xs) (s ∷ st) = omega (arith, words-fewer n k xs st)
+
+pub words-within : (tree states : List ℕ) (i : ℕ) → length (words_inside tree states i) ≤ length states
+words-within tree states i =
+    let end = i + size_at tree i in
+    omega (arith, words-fewer (end - (i + 1)) 0 (drop (i + 1) (items tree)) (drop (i + 1) states), length-drop (i + 1) states)
+
 -- ---- gathered
 
 -- the first n words are those of all but the rest, and a 0 is among all where it is among the rest
 pub record Gathering (all rest words : List ℕ) (n : ℕ) : Type 0 where
-  pub long : length words ≡ 4096
-  pub few : n + length rest ≤ 4096
+  pub room : n + length rest ≤ length words
   pub front : take n words ++ rest ≡ all
   pub full : has rest 0 ≡ has all 0
 
-pub gather_none : (all words : List ℕ) → length all ≤ 4096 → length words ≡ 4096 → Gathering all all words 0
-gather_none all words few long = record { long = long; few = omega arith; front = refl; full = refl }
+pub gather_none : (all words : List ℕ) → length all ≤ length words → Gathering all all words 0
+gather_none all words room = record { room = omega arith; front = refl; full = refl }
 
 module _ {all rest words : List ℕ} {n : ℕ} (g : Gathering all rest words n) where
   pub gather_done : rest ≡ [] → (take n words ≡ all) × (has all 0 ≡ false)
@@ -74,8 +88,8 @@ module _ {all rest words : List ℕ} {n : ℕ} (g : Gathering all rest words n) 
   gather_done e = (sym (append-nil (take n words)) ∙ rw e at g.front, sym (rw e at g.full))
 
   module _ {word : ℕ} {left : List ℕ} (e : rest ≡ word ∷ left) where
-    pub gather_room : n < 4096
-    gather_room = omega (arith, g.few, ap length e)
+    pub gather_room : n < length words
+    gather_room = omega (arith, g.room, ap length e)
 
     pub gather_zero : word ≡ 0 → has all 0 ≡ true
     unfolding has
@@ -84,11 +98,10 @@ module _ {all rest words : List ℕ} {n : ℕ} (g : Gathering all rest words n) 
     pub gather_more : word ≢ 0 → Gathering all left (set words n word) (n + 1)
     unfolding has
     gather_more nz =
-        let next : n < length words = omega (arith, g.long, gather_room) in
-        let front : take (n + 1) (set words n word) ≡ take n words ++ (word ∷ []) = rw (add-one n) (take-suc-set words n word next) in
+        let front : take (n + 1) (set words n word) ≡ take n words ++ (word ∷ []) =
+        rw (add-one n) (take-suc-set words n word gather_room) in
         record {
-          long = length-set words n word ∙ g.long;
-          few = omega (arith, g.few, ap length e);
+          room = omega (arith, g.room, ap length e, length-set words n word);
           front = rw (front, append_assoc (take n words) (word ∷ []) left) (rw e at g.front);
           full = rw (e, eqb-false (λ (k : 0 ≡ word). nz (sym k))) at g.full;
         }

@@ -2,7 +2,7 @@
 ghost use Rattle.std.specs.Prelude.{◌≡◌, ◌<◌, ◌≤◌, length};
 ghost use Rattle.judge_node.specs.Node.{Sized, Shaped, words_inside};
 
-use layout::{MOST_NODES, NODE_WORDS};
+use layout::NODE_WORDS;
 
 // The nodes of a tree, each with a state word.
 #[derive(Clone, Copy)]
@@ -60,7 +60,8 @@ impl ChildWords<'_, '_> {
     }
 
     // Their state words, gathered to the front of `words`; none where one of them has no state.
-    pub(crate) fn gather<'w>(self, words: &'w mut [u32; MOST_NODES]) -> Option<&'w [u32]>
+    pub(crate) fn gather<'w>(self, words: &'w mut [u32]) -> Option<&'w [u32]>
+        requires { length (words_of self) ≤ length words.old }
         ensures { MatchOption result (has (words_of self.entry) 0 ≡ true) (λ words. Gathered self.entry words.now) }
     {
         let mut n = 0;

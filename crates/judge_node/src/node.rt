@@ -1,5 +1,5 @@
 // A node that is judged, by its symbol and by its children's state words.
-ghost use Rattle.std.specs.Prelude.{◌^◌, ◌≤◌};
+ghost use Rattle.std.specs.Prelude.{◌^◌, ◌≤◌, length};
 ghost use Rattle.judge_rules.specs.Found.{Finds};
 ghost use Rattle.judge_node.specs.Node.{lone_states};
 ghost use Rattle.judge_node.specs.Judging.{Judging};
@@ -8,7 +8,7 @@ use crate::children::Nodes;
 use judge_contents::content;
 use judge_order::Children;
 use judge_rules::{Book, Found};
-use layout::{MOST_NODES, NODE_WORDS};
+use layout::NODE_WORDS;
 use symbols::Symbol;
 
 // no state is reached, and no look taken
@@ -47,7 +47,8 @@ impl Node<'_, '_, '_> {
 
     // What its content reaches, by its children: none, one or several; nothing where one of several has no state. `words` is lent to
     // gather their state words in.
-    fn inside(&self, words: &mut [u32; MOST_NODES]) -> Found
+    fn inside(&self, words: &mut [u32]) -> Found
+        requires { length self.now.nodes.states.now ≤ length words.old }
         ensures { FindsInside self.now result }
     {
         let mut children = self.nodes.children(self.number);
@@ -64,7 +65,8 @@ impl Node<'_, '_, '_> {
     }
 
     // The states that it reaches, a text or an element. `words` is lent to gather its children's state words in.
-    pub fn judge(&self, words: &mut [u32; MOST_NODES]) -> Found
+    pub fn judge(&self, words: &mut [u32]) -> Found
+        requires { length self.now.nodes.states.now ≤ length words.old }
         ensures { FindsNode self.now result }
     {
         match Symbol::from(self.nodes.tree[NODE_WORDS * self.number]) {

@@ -55,5 +55,5 @@ pub fn judge_nodes<'a>(
     ensures states { states.new ≡ states_on sheet.now.words.now tree.now states.old }
 {
     let looks = run(sheet, tree, states)?;
-    Ok(verdict(sheet, states, looks as u32))
+    Ok(verdict(sheet.words, states, looks as u32))
 }

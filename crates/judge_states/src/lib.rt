@@ -4,10 +4,9 @@
 ghost use Rattle.std.specs.Prelude.{◌≡◌, ◌<◌, length};
 ghost use Rattle.model.specs.Answers.{said_verdict};
 ghost use Rattle.model.specs.Run.{root_verdict};
-ghost use Rattle.model.specs.Index.{sheet_in};
+ghost use Rattle.model.specs.Index.{sheet_in, Passes};
 ghost use Rattle.judge_states.specs.States.{WordOf};
 
-use indexed::IndexedSheet;
 use layout::FINAL;
 use model::Verdict;
 
@@ -28,9 +27,11 @@ pub fn state_word(targets: u64) -> Option<u32>
 }
 
 // Accepted or refused with the root's state, or stuck at the highest-numbered node without one.
-pub fn verdict(sheet: &IndexedSheet, states: &[u32], looks: u32) -> Verdict
-    requires { 0 < length states.now }
-    ensures { said_verdict result ≡ root_verdict (sheet_in sheet.now.words.now).final states.now looks }
+// kept: a sheet that passes is all that is asked; an `IndexedSheet`, which has the fact, would ask its caller for an index too
+pub fn verdict(sheet: &[u32], states: &[u32], looks: u32) -> Verdict
+    requires sheet { Passes sheet.now }
+    requires nodes { 0 < length states.now }
+    ensures { said_verdict result ≡ root_verdict (sheet_in sheet.now).final states.now looks }
 {
     let root = states[0];
     if root == NO_STATE {
@@ -39,7 +40,7 @@ pub fn verdict(sheet: &IndexedSheet, states: &[u32], looks: u32) -> Verdict
         return Verdict::Stuck { node, looks };
     }
     let state = root - 1;
-    let finals = parts::set_at(sheet.words, FINAL);
+    let finals = parts::set_at(sheet, FINAL);
     if bits::has(finals, state) {
         return Verdict::Accepted { state, looks };
     }

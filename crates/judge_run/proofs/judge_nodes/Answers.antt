@@ -12,7 +12,7 @@ pub overflow_cast-looks : goal.overflow_cast-looks
 overflow_cast-looks c = looks_fit c.args.sheet.now c.requires _ _ c.run.ensures c.in_ok-looks.was
 
 pub verdict-requires : goal.verdict-requires
-verdict-requires c = omega (arith, form-some c.requires)
+verdict-requires c = record { sheet = c.args.sheet.now.indexed.sheet; nodes = omega (arith, form-some c.requires) }
 
 pub returns-in_err-looks : goal.returns-in_err-looks
 unfolding said_judgement

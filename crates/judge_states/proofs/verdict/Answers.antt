@@ -10,7 +10,7 @@ unfolding said_verdict
 returns-then-root-eq-NO_STATE c =
     let node = c.unwrap-node.result in
     let last = last_zero_found c.args.states.now node (search rules) (search rules) (search rules) in
-    root_stuck (sheet_in c.args.sheet.now.words.now).final c.args.states.now c.args.looks c.requires c.if-root-eq-NO_STATE.true last
+    root_stuck (sheet_in c.args.sheet.now).final c.args.states.now c.args.looks c.requires.nodes c.if-root-eq-NO_STATE.true last
 
 pub returns-then-has : goal.returns-then-has
 unfolding said_verdict

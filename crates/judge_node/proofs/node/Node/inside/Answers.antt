@@ -3,7 +3,9 @@ use mathlib.Core.Path.{◌≡◌, sym, ap, ◌∙◌}
 use mathlib.Core.List.{List}
 use Prim.Native.Nat.{ℕ}
 use Rattle.model.specs.Lists.{has}
-use Rattle.judge_node.proofs.ChildLaws.{few_words}
+use native.Mathlib.Omega.{arith}
+use lib.ListN.{length}
+use Rattle.judge_node.proofs.ChildLaws.{few_words, words-within}
 use Rattle.judge_node.proofs.InsideLaws.{leaf_inside, first_small, lone-inside, several_words}
 use Rattle.judge_node.proofs.InsideLaws.{stateless_inside, gathered_words, several_inside}
 use Rattle.judge_node.proofs.node.Node.inside.Goals as goal
@@ -22,6 +24,11 @@ pub returns-then-is_empty : goal.returns-then-is_empty
 returns-then-is_empty c =
     let first = sym c.children-children.ensures ∙ c.in-Some.ensures.steps in
     lone-inside c.args.self.now first (c.is_empty.ensures.none c.if-is_empty.true) c.lone.ensures
+
+pub gather-requires : goal.gather-requires
+gather-requires c =
+    let n = c.args.self.now in
+    omega (arith, ap length c.children.ensures, words-within n.nodes.tree.now n.nodes.states.now n.number, c.requires)
 
 pub invariant_of-content : goal.invariant_of-content
 invariant_of-content c =
