@@ -60,8 +60,17 @@ pub enum Token<'a> {
     Comment(&'a [u8]),
 }
 
+// A number with one digit more, none where it comes to 2^32 exactly: that is as if no digit had been read. A larger one can't be read.
+fn with_digit(number: Option<u32>, digit: u8) -> Result<Option<u32>, Unreadable> {
+    let longer = u64::from(number.unwrap_or(0)) * 10 + u64::from(digit & 0xf);
+    if 1 << 32 < longer {
+        return Err(Unreadable);
+    }
+    Ok(u32::try_from(longer).ok())
+}
+
 // What is left of a line, whose tokens come one after the other.
-#[derive(Drop)]
+#[derive(Clone, Copy)]
 pub struct Tokens<'a> {
     rest: &'a [u8],
 }
@@ -87,14 +96,23 @@ impl<'a> Tokens<'a> {
             .ok_or(Unreadable)
     }
 
-    fn number(&mut self, start: &'a [u8]) -> Result<u32, Unreadable>
+    // The number that goes on from the digits that were read, if any were. Where none is read spaces may stand, if they may at all.
+    fn number(&mut self, begun: Option<u32>, spaced: bool) -> Result<u32, Unreadable>
         ensures { length self.new.rest.now ≤ length self.old.rest.now }
     {
-        let digits = self.up_to(start, |byte| byte.is_ascii_digit())?;
-        str::from_utf8(digits)
-            .or(Err(Unreadable))?
-            .parse::<u32>()
-            .or(Err(Unreadable))
+        let rest = self.rest;
+        let mut number = begun;
+        for (i, byte) in rest.iter().enumerate() {
+            match *byte {
+                digit @ b'0'..=b'9' => number = with_digit(number, digit)?,
+                b' ' if spaced && number.is_none() => {}
+                _ => {
+                    self.rest = &rest[i..];
+                    return number.ok_or(Unreadable);
+                }
+            }
+        }
+        Err(Unreadable)
     }
 
     fn text(&mut self) -> Result<Text<'a>, Unreadable>
@@ -114,13 +132,13 @@ impl<'a> Tokens<'a> {
     {
         let after = self.rest;
         Ok(match first {
-            b'0'..=b'9' => Token::Item(Item::Number(self.number(start)?)),
-            b'-' => Token::Item(Item::Number(self.number(after)?.wrapping_neg())),
-            b'*' => {
-                self.up_to(after, |byte| byte == b' ')?;
-                Token::Times(self.number(self.rest)?)
+            b'0'..=b'9' => {
+                let begun = with_digit(None, first)?;
+                Token::Item(Item::Number(self.number(begun, false)?))
             }
-            b'/' => Token::Over(self.number(after)?),
+            b'-' => Token::Item(Item::Number(self.number(None, false)?.wrapping_neg())),
+            b'*' => Token::Times(self.number(None, true)?),
+            b'/' => Token::Over(self.number(None, false)?),
             b'"' => Token::Item(Item::Text(self.text()?)),
             b'A'..=b'Z' => Token::Item(Item::Name(self.up_to(start, in_word)?)),
             b'@' => Token::Item(Item::File(self.up_to(after, in_word)?)),
