@@ -3,7 +3,7 @@ use cases_print::{answer, judgement, text};
 use cases_scan::Unreadable;
 use cases_store::buffers::{MOST, low_bytes};
 use cases_store::filled::Filled;
-use cases_store::store::Store;
+use cases_store::store::{Part, Store};
 use cases_values::calls::{Buffer, Call};
 use cases_values::contents::Case;
 use cases_values::values::MOST_VALUES;
@@ -41,11 +41,25 @@ fn judge_form(list: &[u32], file: &[u32], text: &[u32]) {
 
 // ---- calls
 
-// A call, and the words of its values.
+// Where the room of a case stands, as the first word: in the call's last value, if it is lent a buffer. A tree check is lent one that isn't
+// printed, with a room from where its first value begins up to where the other ends.
+fn room_of(case: &Case) -> Part {
+    match (case.call, case.values.parts.as_slice()) {
+        (Call::Tree, [tags, tree]) => Part {
+            from: tags.from,
+            to: tree.to,
+        },
+        (call, [.., room]) if call.buffer().is_some() => *room,
+        _ => Part::default(),
+    }
+}
+
+// A call, the words of its values, and how many words or bytes of a buffer it is lent.
 #[derive(Drop)]
 pub(crate) struct Invocation<'s> {
     call: Call,
     values: Filled<&'s [u32], MOST_VALUES>,
+    room: usize,
 }
 
 impl<'s> Invocation<'s> {
@@ -54,19 +68,12 @@ impl<'s> Invocation<'s> {
         for part in case.values.parts.as_slice() {
             values.push(store.words(*part))?;
         }
+        let room = store.words(room_of(case)).first().copied();
         Ok(Invocation {
             call: case.call,
             values,
+            room: room.unwrap_or_default() as usize,
         })
-    }
-
-    // How many words or bytes of a buffer the call is lent.
-    fn room(&self) -> usize {
-        let last = self.values.as_slice().last();
-        match (self.call.buffer(), last) {
-            (Some(_), Some([room, ..])) => *room as usize,
-            _ => 0,
-        }
     }
 
     // Makes the call, prints its answer, and gives how many words of the lent buffer that counts.
@@ -100,7 +107,7 @@ impl<'s> Invocation<'s> {
     // Makes the call, and prints its answer and the lent buffer; a buffer of bytes is printed where they are at hand. What the answer
     // counts of the lent buffer.
     pub(crate) fn run<'b>(&self, out: &'b mut [u32]) -> &'b [u32] {
-        let room = self.room().min(out.len());
+        let room = self.room.min(out.len());
         let lent = &mut out[..room];
         let kept = self.answer(lent);
         if let Some(Buffer::Words) = self.call.buffer() {

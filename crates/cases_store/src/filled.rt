@@ -39,12 +39,6 @@ impl<T: Copy + Default, const N: usize> Filled<T, N> {
         Ok(())
     }
 
-    // Drops the last element, and gives it.
-    pub fn pop(&mut self) -> Option<T> {
-        self.len = self.len.checked_sub(1)?;
-        Some(self.items[self.len])
-    }
-
     // Adds elements, as far as there is room.
     pub fn extend<I: Iterator<Item = T> + Drop>(&mut self, items: I) -> Result<(), Unreadable>
         requires can { I.can_next items }

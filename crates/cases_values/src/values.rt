@@ -16,17 +16,18 @@ pub struct Values<'a> {
     pub comment: Option<&'a [u8]>,
 }
 
-// The values that are read so far, and where the next value, the last item and the open group begin.
+// The values that are read so far, and where the next value, the last item and the open group begin: nowhere, where the store's top is
+// nowhere. The item of a group that has none yet begins nowhere, too.
 #[derive(Drop)]
 struct Reading<'a> {
     values: Values<'a>,
-    start: usize,
-    item: usize,
+    start: Option<usize>,
+    item: Option<usize>,
     group: Option<usize>,
 }
 
 impl<'a> Reading<'a> {
-    fn new(top: usize) -> Reading<'a> {
+    fn new(top: Option<usize>) -> Reading<'a> {
         Reading {
             values: Values {
                 parts: Filled::new(),
@@ -49,18 +50,19 @@ impl<'a> Reading<'a> {
     }
 
     // Opens a group, where none is open.
-    fn open(&mut self, top: usize) -> Result<(), Unreadable> {
+    fn open(&mut self, top: Option<usize>) -> Result<(), Unreadable> {
         if self.group.is_some() {
             return Err(Unreadable);
         }
-        self.group = Some(top);
-        self.item = top;
+        self.group = top;
+        self.item = None;
         Ok(())
     }
 
     // Closes the open group, which is the last item then.
     fn close(&mut self) -> Result<(), Unreadable> {
-        self.item = self.group.take().ok_or(Unreadable)?;
+        let group = self.group.take().ok_or(Unreadable)?;
+        self.item = Some(group);
         Ok(())
     }
 
