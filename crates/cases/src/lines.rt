@@ -1,4 +1,4 @@
-// Lines: comments, named values and cases. Each is lent with its line feed.
+// Lines: comments, named values and cases.
 use crate::run::Invocation;
 use cases_scan::{Unreadable, in_one_line, split_name};
 use cases_store::buffers::MOST;
@@ -6,6 +6,13 @@ use cases_store::store::{STORE_WORDS, Store};
 use cases_values::contents::{Case, Content};
 use cases_values::values::Evaluator;
 use std::rt::Files;
+
+// A line with its line feed, and where it begins in the input.
+#[derive(Clone, Copy)]
+struct Line<'a> {
+    text: &'a [u8],
+    start: usize,
+}
 
 // Makes the call of a line, between what is printed of it: what is before its comment, and the comment. What the answer counts of the
 // lent buffer is put on the store, in place of the case's values.
@@ -20,35 +27,32 @@ fn make_call(store: &mut Store, line: &[u8], case: &Case) -> Result<(), Unreadab
 }
 
 // Prints a line that is no comment, with the answer where it is a case. What it names is put on the store.
-// kept: the index of a line in the input stands beside it, since the store's words tell a name by it
 fn named_or_case<R: Files>(
     evaluator: &mut Evaluator<'_, '_, '_, R>,
-    line: &[u8],
-    at: usize,
+    line: Line,
 ) -> Result<(), Unreadable> {
     evaluator.store.begin_line()?;
-    let named = split_name(line);
-    let written = named.map_or(line, |(_, written)| written);
+    let named = split_name(line.text);
+    let written = named.map_or(line.text, |(_, written)| written);
     match evaluator.content(written)? {
-        Content::Case(case) => make_call(&mut evaluator.store, line, &case)?,
-        Content::Value if named.is_some() => cases_print::line(line),
+        Content::Case(case) => make_call(&mut evaluator.store, line.text, &case)?,
+        Content::Value if named.is_some() => cases_print::line(line.text),
         Content::Value => return Err(Unreadable),
     }
     if named.is_some() {
-        evaluator.store.define(at);
+        evaluator.store.define(line.start);
     }
     Ok(())
 }
 
 // Prints a line, with the answer where it is a case.
-// kept: as in `named_or_case`
-fn any_line<R: Files>(evaluator: &mut Evaluator<'_, '_, '_, R>, line: &[u8], at: usize) {
-    if let [b'\n' | b'#', ..] = line {
-        cases_print::line(line);
+fn any_line<R: Files>(evaluator: &mut Evaluator<'_, '_, '_, R>, line: Line) {
+    if let [b'\n' | b'#', ..] = line.text {
+        cases_print::line(line.text);
         return;
     }
-    if named_or_case(evaluator, line, at).is_err() {
-        cases_print::unreadable_line(line);
+    if named_or_case(evaluator, line).is_err() {
+        cases_print::unreadable_line(line.text);
     }
 }
 
@@ -58,9 +62,9 @@ pub(crate) fn all<R: Files>(rt: &R, text: &[u8]) {
         rt,
         store: Store::new(text, &mut words),
     };
-    let mut at: usize = 0;
-    for line in text.chunk_by(in_one_line) {
-        any_line(&mut evaluator, line, at);
-        at = at.saturating_add(line.len());
+    let mut start: usize = 0;
+    for text in text.chunk_by(in_one_line) {
+        any_line(&mut evaluator, Line { text, start });
+        start = start.saturating_add(text.len());
     }
 }
