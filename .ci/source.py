@@ -6,6 +6,8 @@ from typing import NamedTuple
 
 ROOT = Path(__file__).resolve().parent.parent
 
+BLOCK = re.compile(r"(?:impl|trait|pub trait)\b")
+IMPLEMENTS = re.compile(r"impl\b.*\bfor\b")
 FUNCTION = re.compile(r'^([ \t]*)(pub(?:\(\w+\))?\s+)?(?:(?:const|unsafe|extern\s+"C")\s+)*fn\s+(\w+)', re.M)
 CLAUSE_OR_BODY = re.compile(r"\b(requires|ensures)\b|[{;]")
 ARRAY_RESULT = re.compile(r"\)\s*->\s*(?=\[)")
@@ -40,7 +42,7 @@ class Contract(NamedTuple):
 class Function(NamedTuple):
     name: str
     line: int
-    public: bool  # at module level, `pub` and not `pub(crate)`
+    public: bool  # of a module or a type, `pub` and not `pub(crate)`; or a trait's, on a type that implements it
     parameters: int
     contracts: list[Contract]
 
@@ -113,9 +115,14 @@ def functions(file):
         start = code.index("(", match.end())
         end = closing(code, start)
         line = text.count("\n", 0, match.end()) + 1
-        public = indent == "" and (visible or "").strip() == "pub"
+        public = (visible or "").strip() == "pub" or bool(indent and IMPLEMENTS.match(block(code, match.start())))
         contracts = list(contracts_from(text, code, end))
         yield Function(name, line, public, parameters(code[start + 1 : end]), contracts)
+
+
+def block(code, place):
+    """The first line of the `impl` or trait that stands around an indented place."""
+    return [line for line in code[:place].splitlines() if BLOCK.match(line)][-1]
 
 
 def contracts_from(text, code, place):
