@@ -104,11 +104,18 @@ impl From<u32> for Arc {
 }
 
 // What a number leaves on division by m, never negative; none where m is 0.
-pub fn remainder(z: i32, m: u32) -> Option<u32>
+pub fn checked_remainder(z: i32, m: u32) -> Option<u32>
     ensures { result ≡ cond (eqb m 0) None (Some (remainder_of z m)) }
 {
     if m == 0 {
         return None;
     }
     Some(i64::from(z).rem_euclid(i64::from(m)) as u32)
+}
+
+// What a number leaves on division by m, never negative; 0 where m is 0.
+pub fn remainder(z: i32, m: u32) -> u32
+    ensures { result ≡ cond (eqb m 0) 0 (remainder_of z m) }
+{
+    checked_remainder(z, m).unwrap_or(0)
 }

@@ -43,7 +43,7 @@ abbrev pub Said : ℕ → (words rest : List ℕ) → Step → Type 0
 Said zero words rest s = ⊥
 Said (suc zero) words rest s = EndsSum (drop 1 words) 1 rest s (λ z after. le_z z (signed (get_or after 0 0)))
 Said (suc (suc zero)) words rest s = EndsSum (drop 1 words) 2 rest s
-    (λ z after. let m = get_or after 0 0 in cond (eqb m 0) false (eqb (remainder_of z m) (get_or after 1 0)))
+    (λ z after. let m = get_or after 0 0 in eqb (cond (eqb m 0) 0 (remainder_of z m)) (get_or after 1 0))
 Said (suc (suc (suc zero))) words rest s = Ends words 2 rest s (λ w earlier. not (get_or earlier (get_or words 1 0) false))
 Said (suc (suc (suc (suc zero)))) words rest s = PairFirst ◌&&◌ words rest s
 Said (suc (suc (suc (suc (suc zero))))) words rest s = PairFirst ◌||◌ words rest s

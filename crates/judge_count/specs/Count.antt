@@ -59,11 +59,11 @@ pub record Summed (words counts rest : List ℕ) (z : ℤ) : Type 0 where
 abbrev pub AtMost : List ℕ → ℤ → (rest : List ℕ) → Bool → Type 0
 AtMost words z rest b = (b ≡ le_z z (signed (get_or words 0 0))) × (rest ≡ drop 1 words)
 
--- a sum z leaves the second word on division by the first, and nothing on division by 0; the words after the two
+-- a sum z leaves the second word on division by the first, and 0 on division by 0; the words after the two
 abbrev pub Leaves : List ℕ → ℤ → (rest : List ℕ) → Bool → Type 0
 Leaves words z rest b =
     let m = get_or words 0 0 in
-    (b ≡ cond (eqb m 0) false (eqb (remainder_of z m) (get_or words 1 0))) × (rest ≡ drop 2 words)
+    (b ≡ eqb (cond (eqb m 0) 0 (remainder_of z m)) (get_or words 1 0)) × (rest ≡ drop 2 words)
 
 -- ---- steps
 

@@ -69,7 +69,7 @@ impl<'a> Sum<'a> {
         ensures { Leaves self.now.rest.now self.now.total result.rest.now result.holds }
     {
         Step {
-            holds: bits::remainder(self.total, self.rest[0]) == Some(self.rest[1]),
+            holds: bits::remainder(self.total, self.rest[0]) == self.rest[1],
             rest: &self.rest[2..],
         }
     }

@@ -14,7 +14,7 @@ use read_names::{Names, chain, named};
 use read_nodes::{FIELD, Words, packed};
 use read_runs::{name_length, text_length, trimmed, white_length};
 use read_scan::{Scan, Seen};
-use symbols::of_text;
+use symbols::of_kind;
 use tags::Table;
 
 // The most elements that lie one in another.
@@ -303,7 +303,7 @@ impl<'a> Reader<'a> {
             return Err(next.stopped());
         }
         let text = trimmed(&rest[..bytes]);
-        let symbol = of_text(chars::kind_of(text));
+        let symbol = of_kind(chars::kind_of(text));
         self.words[node] = packed(u64::from(symbol), 1, at as u64, text.len() as u64);
         self.scan = Scan {
             at: next.at,

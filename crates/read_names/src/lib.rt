@@ -6,7 +6,7 @@ ghost use Rattle.model.specs.Bytes.{is_name, same_bytes};
 ghost use Rattle.model.specs.Names.{tag_of};
 ghost use Rattle.model.specs.Text.{name_at};
 ghost use Rattle.offsets.specs.Lines.{line_count};
-ghost use Rattle.tags.specs.Tables.{name_by, tag_or_none, empty, TableOf};
+ghost use Rattle.tags.specs.Tables.{name_by, tag_or_none, Unchained, TableOf};
 ghost use Rattle.read_names.specs.Listing.{Listing};
 
 use chars::Class;
@@ -30,9 +30,9 @@ pub fn named(bytes: &[u8], name: &[u8]) -> bool
     }
 }
 
-// Makes an empty table that of a list, with every tag in its chain.
+// Makes a table in which no chain has begun that of a list, with every tag in its chain.
 pub fn chain(list: &[u8], table: &mut Table)
-    requires { table.old ≡ empty }
+    requires { Unchained table.old }
     ensures { TableOf list.now table.new (line_count list.now) }
 {
     let count = table.index(list);

@@ -1,7 +1,7 @@
 // What a node's symbol says: its first word, a tag's number or one of the two words of texts.
 #![tactic(auto)]
 
-ghost use Rattle.std.specs.Prelude.{◌≡◌};
+ghost use Rattle.std.specs.Prelude.{◌≡◌, ◌≤◌};
 ghost use Rattle.model.specs.Bytes.{text_kind};
 ghost use Rattle.model.specs.Tree.{of_text, symbol_of};
 ghost use Rattle.symbols.specs.Meaning.{meaning};
@@ -44,12 +44,23 @@ impl From<u32> for Symbol {
 
 // The symbol of a text of a kind.
 // kept: From<TextKind> for u32 belongs to another crate; with From<Symbol>, Tag(65) and an integer text would give one word, 65
-pub fn of_text(kind: TextKind) -> u32
+pub fn of_kind(kind: TextKind) -> u32
     ensures { symbol_of result ≡ of_text (text_kind kind) }
 {
     // kept: a number for each kind, by document 01; no step is run
     match kind {
         TextKind::Integer => INTEGER_TEXT,
         TextKind::Other => OTHER_TEXT,
+    }
+}
+
+// The symbol of a text of kind 1 or 2. Any other number is taken as 2.
+pub fn of_text(kind: u32) -> u32
+    ensures { (1 ≤ kind) × (kind ≤ 2) → symbol_of result ≡ of_text kind }
+{
+    if kind == 1 {
+        of_kind(TextKind::Integer)
+    } else {
+        of_kind(TextKind::Other)
     }
 }

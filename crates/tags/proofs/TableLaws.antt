@@ -8,30 +8,44 @@ use native.Mathlib.Omega.{arith}
 use native.Mathlib.Decide.{ℕ_discrete}
 use lib.Dec.{leb, ltb}
 use lib.ListN.{replicate, length-set, length-replicate, get_or-replicate}
-use lib.Seq.{sets, get_or-set_same, get_or-set_other}
+use lib.Seq.{get_or-set_same, get_or-set_other, length-sets}
 use borrow.Author.Tests.{lt-leb, le-ltb, leb-false, ltb-false}
 use Rattle.model.specs.Names.{name_of}
 use Rattle.offsets.specs.Lines.{line_starts}
 use Rattle.offsets.proofs.IndexLaws.{indexed}
 use Rattle.tags.specs.declared.Table.{Table}
-use Rattle.tags.specs.Tables.{first_of, next_of, bucket, empty, with_starts, put_first, linked, Last, TableOf}
+use Rattle.tags.specs.Tables.{first_of, next_of, bucket, empty, with_starts, put_first, linked, Unchained, Last, TableOf}
 use Rattle.tags.proofs.TagLaws.{or_none}
 
 -- ---- no tag is in a chain yet
 
-pub table_none : (list : List ℕ) {starts : List ℕ} → starts ≡ sets (replicate 65 0) 0 (line_starts list) → TableOf list
-    (record { starts = starts; firsts = replicate 64 0; nexts = replicate 65 0 }) 0
-table_none list {starts} e = record {
-  chains = length-replicate {A = ℕ} 64 0;
-  tags = length-replicate {A = ℕ} 65 0;
-  index = indexed list (replicate 65 0) starts (rw (length-replicate {A = ℕ} 65 0) (omega arith)) e;
-  first = λ h p. rw (get_or-replicate {A = ℕ} 64 h 0 0 p) (record
+pub table_begun : (list : List ℕ) (old : Table) {new : Table} → new ≡ with_starts list old → Unchained old → TableOf list new 0
+table_begun list old e u = rw e (record {
+  lines = length-sets old.starts 0 (line_starts list) ∙ u.lines;
+  chains = u.chains;
+  tags = u.tags;
+  index = indexed list old.starts _ (omega (arith, u.lines)) refl;
+  first = λ h p. rw (u.first h p) (record
       { few = omega arith; there = λ q. absurd (omega arith); most = λ b p q _. omega arith });
   next = λ b p q. absurd (omega arith);
-}
+})
 
-pub table_begun : (list : List ℕ) (old : Table) {new : Table} → new ≡ with_starts list old → old ≡ empty → TableOf list new 0
-table_begun list old e b = rw (e, b) (table_none list refl)
+pub empty_unchained : {table : Table} → table ≡ empty → Unchained table
+empty_unchained e = rw e (record {
+  lines = length-replicate {A = ℕ} 65 0;
+  chains = length-replicate {A = ℕ} 64 0;
+  tags = length-replicate {A = ℕ} 65 0;
+  first = λ h p. get_or-replicate {A = ℕ} 64 h 0 0 p;
+})
+
+-- a table of a list without a tag in a chain is one
+pub none_unchained : {list : List ℕ} {table : Table} → TableOf list table 0 → Unchained table
+none_unchained made = record {
+  lines = made.lines;
+  chains = made.chains;
+  tags = made.tags;
+  first = λ h p. let l = made.first h p in omega (arith, l.few);
+}
 
 -- ---- one tag more
 
@@ -78,6 +92,7 @@ module _ {list : List ℕ} {table : Table} {a : ℕ} (made : TableOf list table 
 
   pub table_more : {after : Table} → after ≡ linked table h (a + 1) → TableOf list after (a + 1)
   table_more e = rw (e, is-linked table h (a + 1) (rw (lt-leb 64 h small, le-ltb 64 (a + 1) (omega arith)))) (record {
+    lines = made.lines;
     chains = length-set table.firsts h (a + 1) ∙ made.chains;
     tags = length-set table.nexts (a + 1) (first_of table h) ∙ made.tags;
     index = made.index;

@@ -60,6 +60,13 @@ put_first table h t = record { starts = table.starts; firsts = set table.firsts 
 unfoldable pub linked : Table → (h t : ℕ) → Table
 linked table h t = cond (leb 64 h || ltb 64 t) table (put_first table h t)
 
+-- a table in which no chain has begun: whatever its other entries are, those of a list can be noted in it
+pub record Unchained (table : Table) : Type 0 where
+  pub lines : length table.starts ≡ 65
+  pub chains : length table.firsts ≡ 64
+  pub tags : length table.nexts ≡ 65
+  pub first : (h : ℕ) → h < 64 → first_of table h ≡ 0
+
 -- t is the last of the tags up to tag a whose name is in bucket h, 0 where there is none
 pub record Last (list : List ℕ) (a h t : ℕ) : Type 0 where
   pub few : t ≤ a
@@ -68,6 +75,7 @@ pub record Last (list : List ℕ) (a h t : ℕ) : Type 0 where
 
 -- A table of a list with the tags up to tag a in their chains: each chain begins with its last tag, and goes on with the one before.
 pub record TableOf (list : List ℕ) (table : Table) (a : ℕ) : Type 0 where
+  pub lines : length table.starts ≡ 65
   pub chains : length table.firsts ≡ 64
   pub tags : length table.nexts ≡ 65
   pub index : Indexed list table.starts

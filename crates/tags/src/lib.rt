@@ -28,7 +28,7 @@ pub fn bucket(name: &[u8]) -> usize
 // Where each line of a list begins, and where the last of them ends; the first tag of each chain; and the tag after each tag in its
 // chain.
 // kept: 0 ends a chain and is below each tag, so that by the one test tag <= next each walk ends; an Option would be unwrapped first
-#[derive(Drop)]
+#[derive(Clone, Copy)]
 pub struct Table {
     pub starts: [usize; MOST_NAMES + 1],
     pub firsts: [usize; BUCKETS],

@@ -25,6 +25,13 @@ impl<'a> Form<'a> {
         Form { out, at: 0 }
     }
 
+    // How many bytes have been put.
+    pub fn count(&self) -> usize
+        ensures { result ≡ self.now.at }
+    {
+        self.at
+    }
+
     // kept: std's Write for &mut [u8] tells how much room is left and nothing of the bytes before it, so that no proof could go on
     fn put(&mut self, bytes: &[u8])
         requires { Room self.old bytes.now }

@@ -8,7 +8,7 @@ use write_bytes::Form;
 use write_nodes::Sources;
 
 // The nodes from `first` up to `end` that are side by side under one parent, where `levels` elements may lie one in another.
-#[derive(Drop)]
+#[derive(Clone, Copy)]
 pub struct Siblings<'a> {
     pub sources: &'a Sources<'a>,
     pub levels: u32,

@@ -2,7 +2,7 @@
 use mathlib.Core.Path.{◌≡◌, sym, ◌∙◌}
 use native.Mathlib.Omega.{arith}
 use Rattle.model.proofs.Tests.{same, eqb_no}
-use Rattle.tags.proofs.TableLaws.{table_begun}
+use Rattle.tags.proofs.TableLaws.{table_begun, empty_unchained}
 use Rattle.names.proofs.Checks.{check-first, check-good, after_line, said_none, said_bad, said-many, said-passed}
 use Rattle.names.proofs.check.Goals as goal
 
@@ -12,7 +12,7 @@ returns-then-is_empty c = said_none _ (same _ _ (sym c.is_empty.ensures ∙ c.if
 pub loop-good-init : goal.loop-good-init
 loop-good-init c = (
   check-first _ (eqb_no (sym c.is_empty.ensures ∙ c.if-is_empty.false)),
-  table_begun _ _ c.index-count.ensures.table c.new-table.ensures,
+  table_begun _ _ c.index-count.ensures.table (empty_unchained c.new-table.ensures),
 )
 
 pub enter-requires : goal.enter-requires

@@ -51,7 +51,7 @@ packed-requires c =
     let trims = rw c.rest-rest.ensures at c.trimmed-text.ensures in
     let short = text_short r deep solid c.if-node-ge-MOST_NODES.false _ _ bytes next.class less _ trims in
     let within = run-within text_byte c.args.self.now.text.now c.args.self.now.scan.at r.within in
-    omega (arith, c.from.ensures, symbol-is _ c.kind_of.ensures c.of_text-symbol.ensures, short, r.short, bytes, within)
+    omega (arith, c.from.ensures, symbol-is _ c.kind_of.ensures c.of_kind-symbol.ensures, short, r.short, bytes, within)
 
 pub returns : goal.returns
 returns c =
@@ -61,7 +61,7 @@ returns c =
     let next = c.look-next.ensures in
     let less = seen_same _ _ (sym c.ne.ensures ∙ c.if-ne.false) in
     let trims = rw c.rest-rest.ensures at c.trimmed-text.ensures in
-    let word = rw (c.from.ensures ∙ (symbol-is _ c.kind_of.ensures c.of_text-symbol.ensures).0) at c.packed.ensures in
+    let word = rw (c.from.ensures ∙ (symbol-is _ c.kind_of.ensures c.of_kind-symbol.ensures).0) at c.packed.ensures in
     record {
       same = record { names = refl; text = refl; words = refl };
       is =

@@ -1,6 +1,6 @@
--- `symbols::of_text` meets its contract: each symbol computes to its kind.
+-- `of_kind` meets its contract: each symbol computes to its kind.
 use Rattle.model.specs.Tree.{symbol_of}
-use Rattle.symbols.proofs.of_text.Goals as goal
+use Rattle.symbols.proofs.of_kind.Goals as goal
 
 pub returns-in-Integer : goal.returns-in-Integer
 unfolding symbol_of

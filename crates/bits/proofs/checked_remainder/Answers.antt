@@ -1,4 +1,4 @@
--- `bits::remainder` meets its contract.
+-- `checked_remainder` meets its contract.
 use mathlib.Core.Path.{◌≡◌, ◌∙◌}
 use Prim.Native.Nat.{◌^◌, ◌<◌}
 use lib.IntN.{ℤ, pos}
@@ -8,7 +8,7 @@ use borrow.Author.Tests.{ne_eqb}
 use Rattle.std.proofs.lemmas.Int.{to_z-of_z}
 use Rattle.model.specs.Words.{remainder_of}
 use Rattle.bits.proofs.SignedLaws.{rest_is}
-use Rattle.bits.proofs.remainder.Goals as goal
+use Rattle.bits.proofs.checked_remainder.Goals as goal
 
 pub returns : goal.returns
 returns c =
