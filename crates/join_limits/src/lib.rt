@@ -10,6 +10,9 @@ use limits::{Limit, earlier, first_over};
 
 const MOST_RULES: usize = layout::MOST_RULES as usize;
 
+// the words of a rule of content that are in none of its parts
+const CONTENT_WORDS: usize = 2;
+
 // How many rules there are, the first limit that one of them exceeds, and how many words they have.
 #[derive(Clone, Copy)]
 pub struct Tally {
@@ -55,18 +58,26 @@ impl Tally {
         }
     }
 
-    // That of the joint rule of two rules, of which S's has the extent `own`.
+    // That of the joint rule of two rules, of which S's has the extent `own`. Rules of texts and of tags have no parts.
     fn of_pair(pair: &RulePair, own: Extent) -> Tally
         requires own { own ≡ extent_of S (sizes_of pair.now.sizes) (rule_of pair.now.s) }
         requires small { Small own }
         ensures { TallyOf (of_pairs (sizes_of pair.now.sizes)) (pair_joint pair.now) result }
     {
+        let fixed = fixed_words(&pair.s);
+        if CONTENT_WORDS < fixed {
+            return Tally {
+                rules: 1,
+                over: None,
+                words: fixed,
+            };
+        }
         let other = extent_at(&pair.t, pair.sizes.half(Side::T));
         let joint = own.joint(other, pair.sizes);
         Tally {
             rules: 1,
             over: first_over(joint.positions(), joint.arcs(), joint.steps()),
-            words: joint.words(fixed_words(&pair.s)),
+            words: joint.words(fixed),
         }
     }
 

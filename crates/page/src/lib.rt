@@ -2,12 +2,20 @@
 #![tactic(auto)]
 
 ghost use Rattle.std.specs.Prelude.{◌≡◌, [], ◌∷◌, ◌+◌, ◌-◌, ◌/◌, ◌%◌, min};
+ghost use Rattle.std.proofs.Math.Seq.{slice};
 ghost use Rattle.model.specs.Sheet.{W};
 
 use layout::MOST_WORDS;
 
 // 2 to the power 32
-const WORD: u64 = 1 << 32;
+pub const WORD: u64 = 1 << 32;
+
+// The words from index `from` up to index `to`, as far as there are any.
+pub fn cut(words: &[u32], from: usize, to: usize) -> &[u32]
+    ensures { result.now ≡ slice from to words.now }
+{
+    words.get(from..to.min(words.len())).unwrap_or_default()
+}
 
 // A buffer that words are put into one after another, and the index of the next.
 #[derive(Drop)]
