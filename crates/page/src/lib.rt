@@ -66,16 +66,19 @@ impl<'a> Page<'a> {
     }
 
     // Writes words one after another.
-    // kept: `copy_from_slice` asks for as many words as there is room; this writes those that the buffer has room for, and counts all
+    // kept: word by word, since `copy_from_slice` becomes a call of `memmove`, which nothing else in the library for C needs from outside
     pub fn copy(&mut self, words: &[u32])
         ensures { Writes self.old words.now self.new }
     {
-        let end = self.end(words.len());
-        let top = end.min(self.out.len());
-        if self.at < top {
-            self.out[self.at..top].copy_from_slice(&words[..top - self.at]);
+        // A page of its own keeps the index in a register.
+        let mut page = Page {
+            out: &mut *self.out,
+            at: self.at,
+        };
+        for word in words {
+            page.put(*word);
         }
-        self.at = end;
+        self.at = page.at;
     }
 
     // Writes a word `n` times.
