@@ -1,4 +1,4 @@
-// Sets of numbers below 64 as the bits of a u64, arc words, and signed words.
+// Sets of numbers below 64 as the bits of a u64, arc words, and remainders.
 #![tactic(auto)]
 
 ghost use Rattle.std.specs.Prelude.{◌≡◌, cond, ◌&&◌, ◌||◌, ◌+◌, ◌*◌, eqb, length, None, Some};

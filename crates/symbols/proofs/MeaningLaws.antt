@@ -1,4 +1,4 @@
--- What a symbol says, from the answer of `symbols::symbol_of` and the arm that is taken.
+-- What a symbol says, from the answer of `Symbol::from` and the arm that is taken.
 use mathlib.Core.Path.{◌≡◌, sym, ap, ◌∙◌}
 use mathlib.Core.Logic.{◌≢◌}
 use mathlib.Core.List.{[], ◌∷◌}

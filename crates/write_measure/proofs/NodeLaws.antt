@@ -23,7 +23,7 @@ use Rattle.write_nodes.specs.Nodes.{node_at, span_of, TagOf}
 use Rattle.write_nodes.specs.declared.Node.{Node}
 use Rattle.write_measure.specs.Lengths.{blank, own_by, own_bytes, Small, added, measured, Tags}
 
--- ---- what a node adds, by the answer r of `symbols::symbol_of`
+-- ---- what a node adds, by the answer r of `Symbol::from`
 
 module _ (list text : List ℕ) (n : Node) {r : Symbol} (m : meaning r ≡ symbol_of n.symbol) where
   pub own_nothing : r ≡ Nothing → None ≡ own_bytes list text n
