@@ -7,8 +7,8 @@ use native.Mathlib.Decide.{dec_le}
 use native.Mathlib.Nat.{add-zero, zero-add, sub-zero}
 use native.Mathlib.Numerals.{add-one}
 use native.Mathlib.Omega.{arith}
-use lib.ListN.{length, get_or, take, drop, set, replicate, length-set, length-drop, drop_of_length-le}
-use lib.Seq.{sets, sets-eq, set_out, drop-cons, length-take-le}
+use lib.ListN.{length, get_or, take, drop, set, replicate, length-set, length-take, length-drop, drop_of_length-le}
+use lib.Seq.{sets, sets-eq, set_out, slice, slice-cons, take_all, drop-cons, length-take-le}
 use borrow.Rule.Slice.PartMut.{put_mid}
 use Rattle.std.proofs.lemmas.List.{drop-drop, length-replicate, take-replicate}
 use borrow.Author.Tests as tests
@@ -73,6 +73,22 @@ rest_next l i h = rw add-one (drop-cons l i 0 h)
 
 pub rest_none : (l : List ℕ) (i : ℕ) → length l ≤ i → drop i l ≡ []
 rest_none l i h = drop_of_length-le l {i = i} h
+
+-- the words of a list from one index up to another
+pub slice_next : (l : List ℕ) (i j : ℕ) → i < j → j ≤ length l → slice i j l ≡ get_or l i 0 ∷ slice (i + 1) j l
+slice_next l i j h k = rw add-one (slice-cons i j l 0 h k)
+
+-- the first of them, as it was read
+pub slice_at : (l : List ℕ) (i j : ℕ) {w : ℕ} → w ≡ get_or l i 0 → i < j → j ≤ length l → slice i j l ≡ w ∷ slice (i + 1) j l
+slice_at l i j e h k = rw e (slice_next l i j h k)
+
+pub slice_none : (l : List ℕ) (i j : ℕ) → j ≤ i → slice i j l ≡ []
+slice_none l i j h = drop_of_length-le (take j l) {i = i} (omega (arith, length-take j l))
+
+-- cut off where the list ends
+pub slice_cut : (l : List ℕ) (i j : ℕ) {e : ℕ} → e ≡ min j (length l) → slice i e l ≡ slice i j l
+slice_cut l i j {e} h = by_cases (dec_le j (length l)) (λ k. let same : e ≡ j = omega arith in rw same)
+    (λ k. rw (take_all e l (omega arith), take_all j l (omega arith)))
 
 -- the numbers below n from i on
 pub from_start : {m n : ℕ} → n ≡ m → from (n - 0) 0 ≡ numbers m
