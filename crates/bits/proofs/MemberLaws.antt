@@ -65,7 +65,7 @@ members_ones (suc k) n = rw (members-suc k n, members_ones k (n / 2)) (go (n % 2
 pub size_is : (k n : ℕ) → n < 2 ^ k → ones n ≡ length (members k n)
 size_is k n h = ones_up_to k n h ∙ members_ones k n
 
-lowest_is : (k n : ℕ) → count_trailing_zeros k n ≡ get_or (members k n) 0 k
+pub lowest_is : (k n : ℕ) → count_trailing_zeros k n ≡ get_or (members k n) 0 k
 unfolding count_trailing_zeros members flat_map from
 lowest_is zero n = refl
 lowest_is (suc k) n = rw (members-suc k n, lowest_is k (n / 2)) (go (n % 2) (members k (n / 2)))
@@ -88,7 +88,7 @@ members_even k h =
     let even : h * 2 % 2 ≡ 0 = omega arith in
     members-suc k (h * 2) ∙ rw (even, half)
 
-without_is : (k n : ℕ) → members k (bit_and n (n - 1)) ≡ drop 1 (members k n)
+pub without_is : (k n : ℕ) → members k (bit_and n (n - 1)) ≡ drop 1 (members k n)
 unfolding members flat_map from
 without_is zero n = refl
 without_is (suc k) n = rw (members-suc k n) (go (n % 2) refl (without_is k (n / 2)))

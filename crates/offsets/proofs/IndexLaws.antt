@@ -32,7 +32,7 @@ module _ (list starts whole after : List ℕ) (k at : ℕ) (b : Begins list k at
   write-last h = let m : line_count list + 1 - k ≡ 1 = omega arith in (h, put ∙ sym (rw (m, b.start)) ∙ e)
 
 -- a function mapped over the numbers from q on
-mapped_at : (f : ℕ → ℕ) (n q k : ℕ) → k < n → get_or (map f (from n q)) k 0 ≡ f (q + k)
+pub mapped_at : (f : ℕ → ℕ) (n q k : ℕ) → k < n → get_or (map f (from n q)) k 0 ≡ f (q + k)
 unfolding from
 mapped_at f zero q k h = absurd (omega arith)
 mapped_at f (suc n) q zero h = rw add-zero

@@ -48,7 +48,7 @@ pub record Cut (list : List ℕ) (at end : ℕ) : Type 0 where
   pub within : end ≤ length list
   pub cut : lines (drop at list) ≡ take (end - at) (drop at list) ∷ lines (drop end list)
 
-line_cut : (list : List ℕ) (at end : ℕ) → at < length list → end ≡ at + length (line (drop at list) 0) → Cut list at end
+pub line_cut : (list : List ℕ) (at end : ℕ) → at < length list → end ≡ at + length (line (drop at list) 0) → Cut list at end
 line_cut list at end h e =
     let (n, p, q, f) = lines_cons (drop at list) (rw length-drop (omega arith)) in
     let m : length (line (drop at list) 0) ≡ n =

@@ -118,7 +118,7 @@ all_rows {m} {n} {s} {t} {i} h l = let e : i ≡ m = omega (arith, h.within) in 
 
 -- one row more: that of i, all members of t below n or none of them
 module _ {m n s t i set : ℕ} (h : Rows m n s t i set) (l : i < m) where
-  row_room : i * n + n ≤ 64
+  pub row_room : i * n + n ≤ 64
   row_room = let k : suc i * n ≤ m * n = mul-le-mul_right n l in omega (arith, h.few)
 
   module _ {row : ℕ} {flag : Bool} (f : flag ≡ bit s i) (r : row ≡ mask (min n 64) (bit t)) where
@@ -142,10 +142,10 @@ module _ {m n s t i set : ℕ} (h : Rows m n s t i set) (l : i < m) where
         ap₂ ◌+◌ h.is (shl_exact n (i * n) 64 row_small (omega (arith, row_room)) ∙ ap (λ (x : ℕ). x * 2 ^ (i * n)) high)
         ∙ sym (mask_parts (i * n) n (both n s t))
 
-    with_row-fits : with_row < 2 ^ 64
+    pub with_row-fits : with_row < 2 ^ 64
     with_row-fits = omega (arith, with_row-is, mask-< (i * n + n) (both n s t), pow_mono row_room)
 
-    one_row_more : Rows m n s t (i + 1) with_row
+    pub one_row_more : Rows m n s t (i + 1) with_row
     one_row_more =
         let e : i * n + n ≡ (i + 1) * n = omega arith in
         record { some = h.some; few = h.few; within = omega arith; is = with_row-is ∙ ap (λ (k : ℕ). mask k (both n s t)) e }
