@@ -1,2 +1,3 @@
 mod DecimalLaws
+mod PutLaws
 mod WordLaws
