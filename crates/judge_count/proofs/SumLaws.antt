@@ -12,6 +12,8 @@ use lib.ListN.{length, get_or, take, drop, set, replicate, length-set, length-dr
 use lib.Seq.{drop-cons, take_all, get_or-set_same, get_or-set_other}
 use lib.IntN.{ℤ, pos, negsuc, neg_ℤ, nat_abs, sub_ℕ, ◌+ℤ◌, ◌*ℤ◌, +ℤ_assoc, +ℤ_idl, +ℤ_idr}
 use borrow.Author.Tests.{lt-ltb, le-ltb, ltb-true}
+use mir.Syntax.{w32}
+use mir.Val.{SFits}
 use Rattle.model.specs.Lists.{◌∈◌, Ascending, only}
 use Rattle.model.specs.Words.{occurrences, total}
 use Rattle.model.specs.Sheet.{Coefficient, W, set_words, signed_word, marks, sum_words, small, signed_32, members, signed}
@@ -146,6 +148,18 @@ abs_plus (pos a) (pos b) = omega arith
 abs_plus (pos a) (negsuc b) = abs_minus a b
 abs_plus (negsuc a) (pos b) = omega (arith, abs_minus b a)
 abs_plus (negsuc a) (negsuc b) = omega arith
+
+small-fits : {z : ℤ} → nat_abs z < 2 ^ 31 → SFits w32 z
+small-fits {z = pos n} h = record { sfits = h }
+small-fits {z = negsuc n} h = record { sfits = omega arith }
+
+-- times × count, and total more, are signed numbers of 32 bits
+pub sum_fits : {total times : ℤ} {count : ℕ} → SFits w32 total → SFits w32 times
+    → (nat_abs total + nat_abs times * count < 2 ^ 31) × (count < 2 ^ 31)
+    → SFits w32 (times *ℤ pos count) × SFits w32 (total +ℤ (times *ℤ pos count))
+sum_fits {total} {times} {count} ft fc (h, hn) =
+    let size = abs_times times count in
+    (small-fits (omega arith), small-fits (omega (arith, abs_plus total (times *ℤ pos count))))
 
 -- ---- coefficients
 
