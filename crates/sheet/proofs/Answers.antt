@@ -25,14 +25,14 @@ module _ (s : List ℕ) {r : Answer} (e : said r ≡ sheet_said s) where
   pub passes_counted : {n : ℕ} → r ≡ Ok n → Passes s
   passes_counted f = let (_, (t, h)) = sheet-counted s e f in (passes_in h).0
 
-  pub index-refused : (index : List ℕ) {x : Refusal} → r ≡ Err x → index ≡ index_after index s
+  pub index-refused : (index : List ℕ) {x : Refusal} → r ≡ Err x → (said (Err x) ≡ sheet_said s) × (index ≡ index_after index s)
   unfolding index_after ◌>>=◌ buffer_after
-  index-refused index f = let (_, h, _) = sheet-refused s e f in rw h
+  index-refused index f = let (_, h, _) = sheet-refused s e f in (rw f at e, rw h)
 
   pub index_left : (index : List ℕ) {left : List ℕ} {n : ℕ} → r ≡ Ok n → left ≡ buffer_after index (passes (index_words (sheet_in s)))
-      → left ≡ index_after index s
+      → (said (Ok n) ≡ sheet_said s) × (left ≡ index_after index s)
   unfolding index_after ◌>>=◌
-  index_left index f h = rw (passes_counted f).as_sheet h
+  index_left index f h = (rw f at e, rw (passes_counted f).as_sheet h)
 
 -- ---- a sheet from a file: r is the check's answer on its whole words
 
