@@ -119,7 +119,7 @@ module _ {R left : List Rule} {ones twos counts : ℕ} (g : Numbering R left one
         texts = omega (arith, rw e at g.texts);
         tags = omega (arith, rw e at g.tags);
         counts = omega (arith, rw e at g.counting);
-        few = omega (arith, numbering_few);
+        few = omega (arith, g.all, g.texts, g.tags, kind_few 1 R, kind_few 2 R);
       }
 
 -- ---- along a chain

@@ -1,5 +1,5 @@
 -- The rules of a sheet: how many there are, and what one of them gives.
-use Rattle.std.specs.Prelude.{◌≡◌, Bool, true, false, cond, ◌&&◌, ◌||◌, List, [], ◌∷◌, ℕ, ◌+◌, ◌≤◌, eqb, get_or}
+use Rattle.std.specs.Prelude.{◌≡◌, Bool, true, false, cond, ◌&&◌, ◌||◌, List, [], ◌∷◌, ℕ, ◌+◌, ◌≤◌, eqb, length, get_or}
 use Rattle.std.proofs.Math.Option.{none, some}
 use Rattle.model.specs.Lists.{only}
 use Rattle.model.specs.Sheet.{Rule, one, two, three, bit, mask}
@@ -24,7 +24,7 @@ pub record RulesOf (R : List Rule) (r : Rules) : Type 0 where
   pub texts : r.ones ≡ of_kind 1 R
   pub tags : r.twos ≡ of_kind 2 R
   pub counts : r.counted ≡ of_count R
-  pub few : (r.ones ≤ 1024) × (r.twos ≤ 1024)
+  pub few : (r.ones ≤ length R) × (r.twos ≤ length R) × (length R ≤ 1024)
 
 -- ---- rules of kind two
 
