@@ -24,7 +24,10 @@ use Rattle.indexed.specs.Spots.{parts_of}
 use Rattle.indexed.specs.Rules.{rule_of, OrderIn, CountIn}
 use Rattle.indexed.proofs.SpotLaws.{stands}
 use Rattle.join_pairs.specs.declared.Half.{Half}
+use Rattle.join_pairs.specs.declared.Sizes as numbers
+use Rattle.join_pairs.specs.Pairs.{FewPairs}
 use Rattle.join_pairs.specs.Sides.{side_of, sizes_of, own_states}
+use Rattle.join_pairs.proofs.NumberLaws.{mul_le, few-S, few-T}
 use Rattle.join_count.specs.Counts.{SomeCount, LiftsCount}
 use Rattle.join_count.proofs.CountWords.{count-number}
 use Rattle.join_alike.proofs.AlikeLaws.{JointOf, texts, tags, contents}
@@ -32,7 +35,7 @@ use Rattle.join_extents.specs.declared.OrderSize.{OrderSize}
 use Rattle.join_extents.specs.declared.CountSize.{CountSize}
 use Rattle.join_extents.specs.declared.Extent.{Extent}
 use Rattle.join_extents.specs.Extents.{OfSide, order_size, count_size, lifted_size, SmallOrder, SmallCount, joint_order_size}
-use Rattle.join_extents.specs.Extents.{joint_count_size, extent_of, extent_in, joint_extent, order_words_in, words_in}
+use Rattle.join_extents.specs.Extents.{joint_count_size, extent_of, extent_in, joint_extent, positions_in, arcs_in, order_words_in, words_in}
 use Rattle.join_extents.specs.Extents.{fixed_words, words_of}
 
 -- ---- the joint parts
@@ -96,6 +99,11 @@ order-long (math.some o) = omega (arith, length-map o.arcs arc_word)
 count_long : (p : ℕ) (φ : math.Option (List Step)) → length (count_part p φ) ≡ words_in (count_size p φ)
 count_long p math.none = refl
 count_long p (math.some ss) = refl
+
+pub fixed_few : (x : Rule) → fixed_words x ≤ 4
+fixed_few (one k q) = omega arith
+fixed_few (two g c q) = omega arith
+fixed_few (three o φ q) = omega arith
 
 content-long : (p : ℕ) (o : math.Option Order) (φ : math.Option (List Step)) (q : ℕ)
     → length (rule_words p (three o φ q)) ≡ words_of 2 (extent_in p (three o φ q))
@@ -220,3 +228,15 @@ module _ (x : Spot) where
 
     pub count_none : parts.count ≡ math.none → (None ≡ lifted_size (side_of h.side) (sizes_of h.sizes) parts.count) × SmallCount None
     count_none e = (ap (lifted_size (side_of h.side) (sizes_of h.sizes)) (sym e), record { steps = omega arith; words = omega arith })
+
+-- ---- what the code makes of two order parts
+
+pub products_small : {x y : Option OrderSize} (n : numbers.Sizes) → SmallOrder x × SmallOrder y × FewPairs (sizes_of n)
+    → (positions_in x * positions_in y ≤ 64 * 64) × (arcs_in x * n.t ≤ 1024 * 64) × (arcs_in y * n.s ≤ 1024 * 64)
+    × (arcs_in x * arcs_in y ≤ 1024 * 1024)
+products_small n (x, y, few) = (
+  mul_le _ _ x.positions y.positions,
+  mul_le _ _ x.arcs (few-T few),
+  mul_le _ _ y.arcs (few-S few),
+  mul_le _ _ x.arcs y.arcs,
+)
