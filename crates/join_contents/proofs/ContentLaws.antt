@@ -74,10 +74,10 @@ few-both (contents o u φ ψ s t) h e f = rw (e, f) at h
 -- ---- two rules
 
 module _ (r : RulePair) where
-  states-S : (sheet_in r.s.sheet.words.now).states ≡ r.sizes.s
+  pub states-S : (sheet_in r.s.sheet.words.now).states ≡ r.sizes.s
   states-S = sym (ap (λ (n : model.Sizes). n.of_S) r.sized)
 
-  states-T : (sheet_in r.t.sheet.words.now).states ≡ r.sizes.t
+  pub states-T : (sheet_in r.t.sheet.words.now).states ≡ r.sizes.t
   states-T = sym (ap (λ (n : model.Sizes). n.of_T) r.sized)
 
   -- the targets make a pair

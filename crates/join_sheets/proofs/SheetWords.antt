@@ -65,7 +65,7 @@ module _ (b : Sheets) where
   states_T : b.sizes.t ≡ (sheet_in b.t.words.now).states
   states_T = ap (λ (n : Sizes). n.of_T) b.sized
 
-  states_product : b.sizes.s * b.sizes.t ≡ (joint_of b).states
+  pub states_product : b.sizes.s * b.sizes.t ≡ (joint_of b).states
   unfolding joint
   states_product = ap₂ (◌*◌) states_S states_T
 
