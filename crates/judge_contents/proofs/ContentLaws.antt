@@ -239,7 +239,7 @@ module _ (x : Spot) (z : key (rule_of x) ≡ 0) where
 -- ---- looks along the chain
 
 -- as many words as a rule takes looks
-looked : List ℕ → Rule → List ℕ
+pub looked : List ℕ → Rule → List ℕ
 looked w x = replicate (looks_of w x) 0
 
 tries_are : (w : List ℕ) (R : List Rule) → tries R w ≡ length (flat_map (looked w) R)
@@ -271,7 +271,7 @@ pub record Trying (sheet : IndexedSheet) (w : List ℕ) (c : Chain) (targets loo
   pub of_sheet : c.sheet ≡ sheet
   keyed : c.key ≡ 0
   adding : Gathers targets (flat_map (at_content w) (chain_left c)) (flat_map (at_content w) (rules_in sheet.words.now))
-  taking : looks + length (flat_map (looked w) (chain_left c)) ≡ length (flat_map (looked w) (rules_in sheet.words.now))
+  pub taking : looks + length (flat_map (looked w) (chain_left c)) ≡ length (flat_map (looked w) (rules_in sheet.words.now))
   few : looks + length (chain_left c) * 2 ^ 32 ≤ 2 ^ 42
 
 pub trying_begun : {sheet : IndexedSheet} {w : List ℕ} {c : Chain} → c.sheet ≡ sheet → c.key ≡ 0
