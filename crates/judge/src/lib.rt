@@ -19,7 +19,10 @@ pub fn judge(sheet: &[u32], tree: &[u32], states: &mut [u32]) -> Result<Verdict,
     ensures bound { looks_in (said_judgement result) ≤ 2 * (length tree.now / 4) * get_or sheet.now 5 0 }
 {
     let mut index = [0u32; INDEX_WORDS];
-    sheet::index(sheet, &mut index)?;
+    // kept: the refusal has a name, so that a must-fail edit can tell another in its place, and change nothing else
+    if let Err(refusal) = sheet::index(sheet, &mut index) {
+        return Err(refusal);
+    }
     let n = tree::check(tree, parts::at(sheet, TAGS))?;
     if states.len() < n {
         return Err(Refusal::ShortBuffer(n));
