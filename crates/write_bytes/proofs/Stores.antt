@@ -1,13 +1,12 @@
 -- Bytes put into a buffer, one run after another.
 use mathlib.Core.Path.{◌≡◌, refl, sym, ap, ◌∙◌}
-use mathlib.Core.List.{List, [], ◌∷◌, ◌++◌, append_assoc}
-use Prim.Native.Nat.{ℕ, suc, ◌+◌, ◌-◌, ◌≤◌}
+use mathlib.Core.List.{List, [], ◌∷◌, ◌++◌}
+use Prim.Native.Nat.{ℕ, suc, ◌+◌, ◌≤◌, ◌<◌}
 use native.Mathlib.Nat.{add-zero}
+use native.Mathlib.Numerals.{add-one}
 use native.Mathlib.Omega.{arith}
-use borrow.Rule.Slice.PartMut.{put_mid}
-use lib.ListN.{length, take, drop, set, length-append}
-use lib.Seq.{sets, length-sets, sets-eq}
-use Rattle.std.proofs.lemmas.List.{drop-drop}
+use lib.ListN.{length, get_or, drop, set, length-append, drop_of_length-le}
+use lib.Seq.{drop-cons, sets, length-sets, sets-eq}
 use Rattle.write_bytes.specs.Put.{stored, Put, Room, Writes}
 use Rattle.write_bytes.specs.declared.Form.{Form}
 
@@ -26,17 +25,6 @@ put_none l at = record { next_is = omega arith; buffer = refl }
 
 pub stored-put : (l : List ℕ) (at : ℕ) (xs : List ℕ) → Put l at xs (at + length xs) (stored l at xs)
 stored-put l at xs = record { next_is = refl; buffer = refl }
-
--- a part of a buffer is overwritten
-pub put_part : (l bytes : List ℕ) (at : ℕ) {ys : List ℕ} → at + length bytes ≤ length l → ys ≡ bytes
-    → Put l at bytes (at + length bytes) (put_mid at (at + length bytes - at) l ys)
-unfolding stored
-put_part l bytes at h e = record {
-  next_is = refl;
-  buffer =
-      let k : at + length bytes - at ≡ length bytes = omega arith in
-      rw (e, k, sets-eq bytes l at h, drop-drop (length bytes) at l, append_assoc (take at l) bytes (drop (at + length bytes) l));
-}
 
 -- one run after another is one run
 pub put_then : {l m n xs ys : List ℕ} {at o p : ℕ} → Put l at xs o m → Put m o ys p n → Put l at (xs ++ ys) p n
@@ -76,3 +64,15 @@ room_middle {q = q} v w h r = room_here q v w (room_after (v ++ w) h r)
 pub put_front : {l m xs : List ℕ} {o : ℕ} → Put l 0 xs o m → length xs ≤ length l → m ≡ xs ++ drop (length xs) l
 unfolding stored
 put_front {l} {xs = xs} h k = let z : 0 + length xs ≡ length xs = omega arith in h.buffer ∙ (rw z at (sets-eq xs l 0 (omega arith)))
+
+-- ---- a run copied byte by byte
+
+module _ (l bytes : List ℕ) (at i : ℕ) where
+  pub copy_next : i < length bytes → stored l (at + i) (drop i bytes) ≡ stored (set l (at + i) (get_or bytes i 0)) (at + (i + 1))
+      (drop (i + 1) bytes)
+  unfolding stored
+  copy_next h = let e : at + (i + 1) ≡ suc (at + i) = omega arith in rw (e, add-one i, drop-cons bytes i 0 h)
+
+  pub copy_end : length bytes ≤ i → stored l (at + i) (drop i bytes) ≡ l
+  unfolding stored
+  copy_end h = rw (drop_of_length-le bytes {i = i} h)

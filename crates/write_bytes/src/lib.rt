@@ -37,9 +37,14 @@ impl<'a> Form<'a> {
         requires { Room self.old bytes.now }
         ensures { Writes self.old bytes.now self.new }
     {
-        let end = self.at + bytes.len();
-        self.out[self.at..end].copy_from_slice(bytes);
-        self.at = end;
+        // Both are read once, since the compiler would read them again after each byte, and then can't store many bytes together.
+        let at = self.at;
+        let out = &mut *self.out;
+        // kept: copy_from_slice becomes a call of memmove, which the library for C needed nowhere before
+        for i in 0..bytes.len() {
+            out[at + i] = bytes[i];
+        }
+        self.at = at + bytes.len();
     }
 
     // Puts a name between two marks.
