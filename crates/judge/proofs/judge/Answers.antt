@@ -16,7 +16,7 @@ pub returns-in_err-n : goal.returns-in_err-n
 unfolding said_judgement
 returns-in_err-n c =
     let h = sheet-indexed _ _ c.index.ensures.answer c.index.ensures.index c.in_default.is in
-    let p = err_from_is_err_and c.from_residual-in_err-n.result c.from_residual-in_err-n.ensures.1 in
+    let p = err_from_is_err_and c.from_residual.result c.from_residual.ensures.1 in
     let (answer, (states, bound)) = tree_refused _ _ _ h c.at.ensures c.check.ensures c.in_err-n.was in
     rw (p.1, p.2) (record { answer = answer; states = states; bound = bound })
 
