@@ -3,14 +3,27 @@ ghost use Rattle.std.specs.Prelude.{◌≤◌};
 ghost use Rattle.std.specs.Iterator.{IsFinite};
 
 use cases_scan::Unreadable;
+use std::alloc::AllocError;
 
 // At most N elements, in an array of that size.
 // kept: no heap, so a length stands beside the array; no plainer by the toolchain's ArrayVec, in one more crate to read
-#[derive(Drop)]
+#[derive(Copy)]
 pub struct Filled<T, const N: usize> {
     items: [T; N],
     len: usize,
     ghost within: { len ≤ N },
+}
+
+impl<T: Copy, const N: usize> Clone for Filled<T, N> {
+    ghost use Rattle.std.specs.Prelude.{◌≡◌};
+
+    ghost is_clone = { λ x y. y ≡ x };
+
+    ghost is_infallible = { λ _. Unit {0} };
+
+    fn clone(&self) -> Result<Filled<T, N>, AllocError> {
+        Ok(*self)
+    }
 }
 
 impl<T: Copy + Default, const N: usize> Filled<T, N> {

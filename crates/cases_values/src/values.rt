@@ -10,7 +10,7 @@ use std::rt::Files;
 pub const MOST_VALUES: usize = 4;
 
 // The values of a line, where their words are in the store, and the line from its first comment on.
-#[derive(Drop)]
+#[derive(Clone, Copy)]
 pub struct Values<'a> {
     pub parts: Filled<Part, MOST_VALUES>,
     pub comment: Option<&'a [u8]>,
