@@ -21,7 +21,7 @@ use Rattle.model.specs.Words.{fits_order, fits_count, reads}
 use Rattle.model.specs.Words as Words
 use Rattle.model.specs.Run.{at_content, looks_of, content_targets, tries}
 use Rattle.model.specs.Spans.{RuleAt, Content, content, there_is, order_part, count_part}
-use Rattle.model.specs.Index.{key, sheet_in, rules_in}
+use Rattle.model.specs.Index.{key, sheet_in, rules_in, nth}
 use Rattle.model.proofs.PartLaws.{words_part}
 use Rattle.model.proofs.RuleWords.{order-room, is-there, not_there, order-at, count-stands, after-count}
 use Rattle.model.proofs.PassedLaws.{in_range}
@@ -266,29 +266,39 @@ keyed_few k (r ∷ R) = go (eqb (key r) k) (with_key k R) (keyed_few k R)
 
 -- ---- the loop over the kind-three rules
 
--- What the rules that are left on the chain add to the set, and take in looks, makes what all of them give and take.
+-- What the rules that are left on the chain add to the set, and take in looks, makes what all of them give and take; and the rule that
+-- comes next has the key of content.
 pub record Trying (sheet : IndexedSheet) (w : List ℕ) (c : Chain) (targets looks : ℕ) : Type 0 where
   pub of_sheet : c.sheet ≡ sheet
-  keyed : c.key ≡ 0
-  adding : Gathers targets (flat_map (at_content w) (chain_left c)) (flat_map (at_content w) (rules_in sheet.words.now))
+  pub keyed : c.key ≡ 0
+  pub on_key : c.next < length (rules_in sheet.words.now) → key (nth (rules_in sheet.words.now) c.next) ≡ 0
+  pub adding : Gathers targets (flat_map (at_content w) (chain_left c)) (flat_map (at_content w) (rules_in sheet.words.now))
   pub taking : looks + length (flat_map (looked w) (chain_left c)) ≡ length (flat_map (looked w) (rules_in sheet.words.now))
-  few : looks + length (chain_left c) * 2 ^ 32 ≤ 2 ^ 42
+  pub few : (looks ≤ c.next * 2 ^ 32) × (looks ≤ 2 ^ 42)
+  pub room : looks + length (chain_left c) * 2 ^ 32 ≤ 2 ^ 42
+
+-- the rule that comes next on a chain has its key
+next-keyed : {sheet : IndexedSheet} (c : Chain) → c.sheet ≡ sheet → c.key ≡ 0 → c.next < length (rules_in sheet.words.now)
+    → key (nth (rules_in sheet.words.now) c.next) ≡ 0
+next-keyed c es ek l = rw (← es) (c.on_chain.has_key (rw (← es) at l) ∙ ek)
 
 pub trying_begun : {sheet : IndexedSheet} {w : List ℕ} {c : Chain} → c.sheet ≡ sheet → c.key ≡ 0
     → chain_left c ≡ with_key 0 (rules_in sheet.words.now) → Trying sheet w c 0 0
-trying_begun {sheet} {w} es ek e =
+trying_begun {sheet} {w} {c} es ek e =
     let R = rules_in sheet.words.now in
     record {
       of_sheet = es;
       keyed = ek;
+      on_key = next-keyed c es ek;
       adding = rw (e, with_key-all (at_content w) (λ x d. (apart w x d).0) R) (gathers_none (flat_map (at_content w) R));
       taking = rw (e, with_key-all (looked w) (λ x d. (apart w x d).1) R) (omega arith);
-      few = rw e (omega (arith, keyed_few 0 R, (in_range sheet.indexed.sheet).few_rules));
+      few = omega arith;
+      room = rw e (omega (arith, keyed_few 0 R, (in_range sheet.indexed.sheet).few_rules));
     }
 
 module _ {sheet : IndexedSheet} {w : List ℕ} {c : Chain} {targets looks : ℕ} (g : Trying sheet w c targets looks) where
   pub trying_few : looks ≤ 2 ^ 42
-  trying_few = omega (arith, g.few)
+  trying_few = g.few.1
 
   module _ {d : Chain} (x : Spot) (next : ChainNext c x d) where
     pub next_sheet : x.sheet ≡ sheet
@@ -299,16 +309,21 @@ module _ {sheet : IndexedSheet} {w : List ℕ} {c : Chain} {targets looks : ℕ}
 
     pub trying_more : {n r target : ℕ} {fits : Bool} → Tries x w fits n → target ≡ (parts_of (rule_of x)).target
         → target < (sheet_in x.sheet.words.now).states → r ≡ mask 64 (λ j. bit targets j || (fits && eqb j target))
+        → length (rules_in d.sheet.words.now) - d.next < length (rules_in c.sheet.words.now) - c.next
         → Trying sheet w d r (looks + (1 + n))
     unfolding flat_map looked
-    trying_more {fits = fits} t et lt er =
+    trying_more {fits = fits} t et lt er nearer =
+        let further : c.next < d.next = omega (arith, rw next.sheet at nearer) in
+        let room = rw next.rule at g.room in
         record {
           of_sheet = next.sheet ∙ g.of_sheet;
           keyed = next.same_key ∙ g.keyed;
+          on_key = next-keyed d (next.sheet ∙ g.of_sheet) (next.same_key ∙ g.keyed);
           adding = gathers_more fits _ (omega (arith, lt, (in_range x.sheet.indexed.sheet).few_states)) er
               (rw (next.rule, t.gives, ← et) at g.adding);
           taking = omega (arith, simp (length-append, length-replicate) at (rw next.rule at g.taking), t.takes);
-          few = omega (arith, rw next.rule at g.few, t.few);
+          few = omega (arith, g.few, t.few, further, room);
+          room = omega (arith, room, t.few);
         }
 
   pub trying_ended : chain_left c ≡ [] → FindsTargets (rules_in sheet.words.now) w (record { targets = targets; looks = looks })
