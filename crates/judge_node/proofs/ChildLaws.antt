@@ -73,35 +73,40 @@ words-within tree states i =
 
 -- ---- gathered
 
--- the first n words are those of all but the rest, and a 0 is among all where it is among the rest
-pub record Gathering (all rest words : List ℕ) (n : ℕ) : Type 0 where
-  pub room : n + length rest ≤ length words
+-- So far the first n words, at most as many as the number of the node that comes next, are those of all but the rest; and a 0 is among
+-- all where it is among the rest.
+pub record Gathering (all rest : List ℕ) (room : ℕ) (words : List ℕ) (n at : ℕ) : Type 0 where
+  pub long : length words ≡ room
+  pub few : (n ≤ at) × (n ≤ room)
+  pub left : n + length rest ≤ length words
   pub front : take n words ++ rest ≡ all
   pub full : has rest 0 ≡ has all 0
 
-pub gather_none : (all words : List ℕ) → length all ≤ length words → Gathering all all words 0
-gather_none all words room = record { room = omega arith; front = refl; full = refl }
+pub gather_none : (all words : List ℕ) (at : ℕ) → length all ≤ length words → Gathering all all (length words) words 0 at
+gather_none all words at fits = record { long = refl; few = omega arith; left = omega arith; front = refl; full = refl }
 
-module _ {all rest words : List ℕ} {n : ℕ} (g : Gathering all rest words n) where
+module _ {all rest : List ℕ} {room : ℕ} {words : List ℕ} {n at : ℕ} (g : Gathering all rest room words n at) where
   pub gather_done : rest ≡ [] → (take n words ≡ all) × (has all 0 ≡ false)
   unfolding has
   gather_done e = (sym (append-nil (take n words)) ∙ rw e at g.front, sym (rw e at g.full))
 
-  module _ {word : ℕ} {left : List ℕ} (e : rest ≡ word ∷ left) where
+  module _ {word : ℕ} {others : List ℕ} (e : rest ≡ word ∷ others) where
     pub gather_room : n < length words
-    gather_room = omega (arith, g.room, ap length e)
+    gather_room = omega (arith, g.left, ap length e)
 
     pub gather_zero : word ≡ 0 → has all 0 ≡ true
     unfolding has
     gather_zero z = sym (rw (e, z) at g.full)
 
-    pub gather_more : word ≢ 0 → Gathering all left (set words n word) (n + 1)
+    pub gather_more : word ≢ 0 → {next : ℕ} → at < next → Gathering all others room (set words n word) (n + 1) next
     unfolding has
-    gather_more nz =
+    gather_more nz further =
         let front : take (n + 1) (set words n word) ≡ take n words ++ (word ∷ []) =
         rw (add-one n) (take-suc-set words n word gather_room) in
         record {
-          room = omega (arith, g.room, ap length e, length-set words n word);
-          front = rw (front, append_assoc (take n words) (word ∷ []) left) (rw e at g.front);
+          long = length-set words n word ∙ g.long;
+          few = omega (arith, g.few, g.long, gather_room, further);
+          left = omega (arith, g.left, ap length e, length-set words n word);
+          front = rw (front, append_assoc (take n words) (word ∷ []) others) (rw e at g.front);
           full = rw (e, eqb-false (λ (k : 0 ≡ word). nz (sym k))) at g.full;
         }

@@ -78,12 +78,12 @@ impl ChildWords<'_, '_> {
 }
 
 impl Iterator for ChildWords<'_, '_> {
-    ghost use Rattle.std.specs.Iterator.{YieldsFirst, item_count};
-    ghost use Rattle.judge_node.specs.ChildWords.{words_of};
+    ghost use Rattle.std.specs.Iterator.{item_count};
+    ghost use Rattle.judge_node.specs.ChildWords.{words_of, NextChild};
 
     type Item = u32;
 
-    ghost next_gives = { YieldsFirst words_of };
+    ghost next_gives = { NextChild };
 
     ghost remaining = { item_count words_of };
 

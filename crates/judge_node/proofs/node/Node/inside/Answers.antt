@@ -15,14 +15,14 @@ has_like : {l m : List ℕ} → l ≡ m → has l 0 ≡ has m 0
 has_like e = ap (λ (l : List ℕ). has l 0) e
 
 pub returns-in_default : goal.returns-in_default
-returns-in_default c = leaf_inside c.args.self.now (sym c.children-children.ensures ∙ c.in_default.ensures.steps.0)
+returns-in_default c = leaf_inside c.args.self.now (sym c.children-children.ensures ∙ c.in_default.ensures.steps.0.0)
 
 pub lone-requires : goal.lone-requires
-lone-requires c = first_small c.args.self.now (sym c.children-children.ensures ∙ c.in-Some.ensures.steps)
+lone-requires c = first_small c.args.self.now (sym c.children-children.ensures ∙ c.in-Some.ensures.steps.0)
 
 pub returns-then-is_empty : goal.returns-then-is_empty
 returns-then-is_empty c =
-    let first = sym c.children-children.ensures ∙ c.in-Some.ensures.steps in
+    let first = sym c.children-children.ensures ∙ c.in-Some.ensures.steps.0 in
     lone-inside c.args.self.now first (c.is_empty.ensures.none c.if-is_empty.true) c.lone.ensures
 
 pub gather-requires : goal.gather-requires
@@ -39,7 +39,7 @@ invariant_of-content c =
 
 pub content-requires : goal.content-requires
 content-requires c =
-    let first = sym c.children-children.ensures ∙ c.in-Some.ensures.steps in
+    let first = sym c.children-children.ensures ∙ c.in-Some.ensures.steps.0 in
     several_words c.args.self.now first (c.is_empty.ensures.some c.if-is_empty.false) (c.in-Some-gather.ensures.0 ∙ c.children.ensures)
 
 pub returns-in-Some-gather : goal.returns-in-Some-gather
