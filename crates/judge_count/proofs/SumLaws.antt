@@ -14,12 +14,12 @@ use lib.IntN.{ℤ, pos, negsuc, neg_ℤ, nat_abs, sub_ℕ, ◌+ℤ◌, ◌*ℤ�
 use borrow.Author.Tests.{lt-ltb, le-ltb, ltb-true}
 use mir.Syntax.{w32}
 use mir.Val.{SFits}
-use Rattle.model.specs.Lists.{◌∈◌, Ascending, only}
+use Rattle.model.specs.Lists.{◌∈◌, Ascending, SetBelow, has, only}
 use Rattle.model.specs.Words.{occurrences, total}
-use Rattle.model.specs.Sheet.{Coefficient, W, set_words, signed_word, marks, sum_words, small, signed_32, members, signed}
+use Rattle.model.specs.Sheet.{Coefficient, W, set_words, signed_word, marks, sum_words, small, signed_32, members, mask, signed}
 use Rattle.model.proofs.Tests.{Told, yea, nay, told, same, eqb_yes, eqb_no, eqb-false, eqb_like, Yes, between_inv}
 use Rattle.model.proofs.ListLaws.{asc_only}
-use Rattle.model.proofs.SetWords.{members_set}
+use Rattle.model.proofs.SetWords.{members_set, mask-<, members-mask}
 use Rattle.bits.specs.Stands.{Stands}
 use Rattle.bits.proofs.SetLaws.{stands-members, words_stand}
 use Rattle.judge_order.specs.Order.{StateWords, states_of}
@@ -191,7 +191,9 @@ record Terms (words counts : List ℕ) (h : SumFirst words) (l rest : List ℕ) 
   adds : (w : List ℕ) → Occurs counts w → sum +ℤ total cs w ≡ total h.coefficients w
   bounded : nat_abs sum + 32768 * in_all counts (marks cs) ≤ 32768 * 4096
 
+-- The terms of the states in l are left, which are the members of a set of 64 bits.
 pub record SumLeft (words counts l rest : List ℕ) (sum : ℤ) : Type 0 where
+  pub fits : (set : ℕ) × (set < 2 ^ 64) × (members 64 set ≡ l)
   pub whole : SumFirst words
   pub few : FewCounted counts
   terms : (h : SumFirst words) → (cs : List Coefficient) × Terms words counts h l rest sum cs
@@ -221,8 +223,13 @@ module _ {words : List ℕ} (h : SumFirst words) where
 
 pub no_term : {words counts : List ℕ} {r set : ℕ} → SumFirst words → FewCounted counts → r ≡ get_or words 0 0 + get_or words 1 0 * W
     → set ≡ r → SumLeft words counts (members 64 set) (take (length words - 2) (drop 2 words)) (pos 0)
-no_term {words} h few e es =
-    rw (es, slice-rest 2 words) (record { whole = h; few = few; terms = λ h. (_, first_terms h e few) })
+no_term {words} {r = r} h few e es =
+    rw (es, slice-rest 2 words) (record {
+      fits = (r, (marks_stand h e).fits, refl);
+      whole = h;
+      few = few;
+      terms = λ h. (_, first_terms h e few);
+    })
 
 -- ---- the next term
 
@@ -260,6 +267,14 @@ module _ {words counts l rest : List ℕ} {q : ℕ} {sum : ℤ} {h : SumFirst wo
 
 module _ {words counts l rest : List ℕ} {sum : ℤ} (left : SumLeft words counts l rest sum) where
   module _ {q : ℕ} {next : List ℕ} (e : l ≡ q ∷ next) where
+    -- the other states are the members of a set, too
+    others_fit : (set : ℕ) × (set < 2 ^ 64) × (members 64 set ≡ next)
+    others_fit =
+        let (m, lt, is) = left.fits in
+        let all : SetBelow 64 (q ∷ next) = rw (is ∙ e) at (members_set 64 m) in
+        let others : SetBelow 64 next = record { ascends = all.ascends.1; below = λ x i. all.below x (Memᴰ.tail i) } in
+        (mask 64 (has next), mask-< 64 (has next), members-mask 64 next others)
+
     -- a coefficient is left
     some_term : (h : SumFirst words) → (c : Coefficient) × (cs : List Coefficient) × Terms words counts h (q ∷ next) rest sum (c ∷ cs)
     some_term h = go (rw e at (left.terms h))
@@ -282,6 +297,7 @@ module _ {words counts l rest : List ℕ} {sum : ℤ} (left : SumLeft words coun
           → SumLeft words counts next (take (length rest - 1) (drop 1 rest)) more
       one_term es =
           rw (slice-rest 1 rest) (record {
+            fits = others_fit;
             whole = left.whole;
             few = left.few;
             terms = λ h. let (c, cs, t) = some_term h in (cs, next_terms t et es);
