@@ -26,6 +26,8 @@ impl Element<'_, '_> {
     ghost use Rattle.judge_contents.specs.Tries.{Tries};
 
     // Whether the children fit a rule's count part, if it has one; where a rule has one, there are counts.
+    // In place, so that a rule without a count part costs no call.
+    #[inline(always)]
     fn count_holds(&self, part: Option<&[u32]>) -> bool
         requires { CountIf part }
         ensures { CountHolds part.entry self.now.counts result }
