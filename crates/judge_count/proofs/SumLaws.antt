@@ -9,7 +9,7 @@ use native.Mathlib.Nat.{zero-add, mul-le-mul_right}
 use native.Mathlib.Numerals.{add-one}
 use lib.Dec.{eqb, ltb}
 use lib.ListN.{length, get_or, take, drop, set, replicate, length-set, length-drop, drop_of_length-le}
-use lib.Seq.{drop-cons, take_all, get_or-set_same, get_or-set_other}
+use lib.Seq.{drop-cons, drop-drop, take_all, get_or-set_same, get_or-set_other}
 use lib.IntN.{ℤ, pos, negsuc, neg_ℤ, nat_abs, sub_ℕ, ◌+ℤ◌, ◌*ℤ◌, +ℤ_assoc, +ℤ_idl, +ℤ_idr}
 use borrow.Author.Tests.{lt-ltb, le-ltb, ltb-true}
 use mir.Syntax.{w32}
@@ -191,9 +191,10 @@ record Terms (words counts : List ℕ) (h : SumFirst words) (l rest : List ℕ) 
   adds : (w : List ℕ) → Occurs counts w → sum +ℤ total cs w ≡ total h.coefficients w
   bounded : nat_abs sum + 32768 * in_all counts (marks cs) ≤ 32768 * 4096
 
--- The terms of the states in l are left, which are the members of a set of 64 bits.
+-- The terms of the states in l are left, which are the members of a set of 64 bits; the words that are left begin with their coefficients.
 pub record SumLeft (words counts l rest : List ℕ) (sum : ℤ) : Type 0 where
   pub fits : (set : ℕ) × (set < 2 ^ 64) × (members 64 set ≡ l)
+  pub last : (k : ℕ) × (rest ≡ drop k words)
   pub whole : SumFirst words
   pub few : FewCounted counts
   terms : (h : SumFirst words) → (cs : List Coefficient) × Terms words counts h l rest sum cs
@@ -226,6 +227,7 @@ pub no_term : {words counts : List ℕ} {r set : ℕ} → SumFirst words → Few
 no_term {words} {r = r} h few e es =
     rw (es, slice-rest 2 words) (record {
       fits = (r, (marks_stand h e).fits, refl);
+      last = (2, refl);
       whole = h;
       few = few;
       terms = λ h. (_, first_terms h e few);
@@ -298,6 +300,7 @@ module _ {words counts l rest : List ℕ} {sum : ℤ} (left : SumLeft words coun
       one_term es =
           rw (slice-rest 1 rest) (record {
             fits = others_fit;
+            last = let (k, is) = left.last in (k + 1, ap (drop 1) is ∙ drop-drop 1 k words);
             whole = left.whole;
             few = left.few;
             terms = λ h. let (c, cs, t) = some_term h in (cs, next_terms t et es);

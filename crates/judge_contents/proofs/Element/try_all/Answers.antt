@@ -23,7 +23,7 @@ loop-rule-preserved c =
       tt,
       tt,
       trying_more c.loop-rule.invariant.2 c.in-Some.rule c.in-Some.ensures.steps c.try_rule-tried.ensures target.is target.few
-          c.with_if-targets.ensures (c.in-Some.ensures.goes.on tt).2,
+          c.with_if-targets.ensures,
     )
 
 pub returns : goal.returns
