@@ -4,10 +4,12 @@ use mathlib.Core.Bool.{Bool, true, false, not, ◌&&◌, ◌||◌}
 use mathlib.Core.List.{List, [], ◌∷◌, ◌++◌, flat_map}
 use mathlib.Core.Option.{none, some}
 use mathlib.Core.Option as math
-use mathlib.Core.Logic.{◌≢◌}
-use Prim.Native.Nat.{ℕ, suc, ◌+◌, ◌-◌, ◌^◌, ◌≤◌, ◌<◌, ◌*◌}
+use mathlib.Core.Logic.{◌≢◌, by_cases}
+use Prim.Native.Nat.{ℕ, zero, suc, ◌+◌, ◌-◌, ◌^◌, ◌≤◌, ◌<◌, ◌*◌}
+use native.Mathlib.Decide.{dec_le}
 use native.Mathlib.Omega.{arith}
 use lib.ListN.{length, get_or, take, drop, replicate, length-replicate, length-append, length-map}
+use lib.Seq.{drop-drop}
 use lib.Dec.{eqb, ltb}
 use borrow.Author.Tests.{not-true, not-false, lt-ltb, le-ltb}
 use Rattle.std.specs.Prelude.{Option, None, Some}
@@ -264,6 +266,31 @@ keyed_few k (r ∷ R) = go (eqb (key r) k) (with_key k R) (keyed_few k R)
     go true l h = omega arith
     go false l h = omega arith
 
+-- and no more after some of them
+keyed_fewer : (k n : ℕ) (R : List Rule) → length (with_key k (drop n R)) ≤ length (with_key k R)
+unfolding flat_map only
+keyed_fewer k zero R = omega arith
+keyed_fewer k (suc n) [] = omega arith
+keyed_fewer k (suc n) (r ∷ R) = go (eqb (key r) k) (with_key k R) (keyed_fewer k n R)
+  where
+    go : (b : Bool) (l : List Rule) → length (with_key k (drop n R)) ≤ length l → length (with_key k (drop n R)) ≤ length (only b r ++ l)
+    go true l h = omega (arith, h)
+    go false l h = omega (arith, h)
+
+-- a chain ascends
+goes-on : {c d : Chain} (x : Spot) → ChainNext c x d → c.next < d.next
+goes-on {c} {d} x next = by_cases (dec_le d.next c.next) (λ back. absurd (not_back back)) (λ on. omega (arith, on))
+  where
+    not_back : d.next ≤ c.next → ⊥
+    not_back back =
+        let R = rules_in c.sheet.words.now in
+        let rule : with_key c.key (drop c.next R) ≡ rule_of x ∷ with_key c.key (drop d.next R) =
+        rw (next.sheet, next.same_key) at next.rule in
+        let number : d.next + (c.next - d.next) ≡ c.next = omega (arith, back) in
+        let later : drop (c.next - d.next) (drop d.next R) ≡ drop c.next R =
+        drop-drop (c.next - d.next) d.next R ∙ ap (λ (n : ℕ). drop n R) number in
+        omega (arith, ap length rule, rw later at (keyed_fewer c.key (c.next - d.next) (drop d.next R)))
+
 -- ---- the loop over the kind-three rules
 
 -- What the rules that are left on the chain add to the set, and take in looks, makes what all of them give and take; and the rule that
@@ -309,11 +336,9 @@ module _ {sheet : IndexedSheet} {w : List ℕ} {c : Chain} {targets looks : ℕ}
 
     pub trying_more : {n r target : ℕ} {fits : Bool} → Tries x w fits n → target ≡ (parts_of (rule_of x)).target
         → target < (sheet_in x.sheet.words.now).states → r ≡ mask 64 (λ j. bit targets j || (fits && eqb j target))
-        → length (rules_in d.sheet.words.now) - d.next < length (rules_in c.sheet.words.now) - c.next
         → Trying sheet w d r (looks + (1 + n))
     unfolding flat_map looked
-    trying_more {fits = fits} t et lt er nearer =
-        let further : c.next < d.next = omega (arith, rw next.sheet at nearer) in
+    trying_more {fits = fits} t et lt er =
         let room = rw next.rule at g.room in
         record {
           of_sheet = next.sheet ∙ g.of_sheet;
@@ -322,7 +347,7 @@ module _ {sheet : IndexedSheet} {w : List ℕ} {c : Chain} {targets looks : ℕ}
           adding = gathers_more fits _ (omega (arith, lt, (in_range x.sheet.indexed.sheet).few_states)) er
               (rw (next.rule, t.gives, ← et) at g.adding);
           taking = omega (arith, simp (length-append, length-replicate) at (rw next.rule at g.taking), t.takes);
-          few = omega (arith, g.few, t.few, further, room);
+          few = omega (arith, g.few, t.few, goes-on x next, room);
           room = omega (arith, room, t.few);
         }
 
