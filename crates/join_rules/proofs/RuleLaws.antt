@@ -78,10 +78,11 @@ module _ (r : RulePair) where
   small : (k : ℕ) → TwoStates (sheet_in r.s.sheet.words.now).states (sheet_in r.t.sheet.words.now).states r.s.at r.t.at
       r.s.sheet.words.now r.t.sheet.words.now k
       → StatesAt r k
-  small k ((_, s), (_, t)) =
+  small k ((room_S, s), (room_T, t)) =
       let p = ap (λ (n : model.Sizes). n.of_S) r.sized in
       let q = ap (λ (n : model.Sizes). n.of_T) r.sized in
-      record { first = omega (arith, p, few-S r.sizes.few); second = omega (arith, q, few-T r.sizes.few) }
+      let few = few-T r.sizes.few in
+      record { few = few; first = (room_S, omega (arith, p, few-S r.sizes.few)); second = (room_T, omega (arith, q, few)) }
 
   module _ (e : get_or r.s.sheet.words.now r.s.at 0 ≡ 33) where
     pub text_states : StatesAt r 2

@@ -1,6 +1,6 @@
 -- The words of the joint rules of two sheets.
 use mathlib.Core.List.{List, flat_map}
-use Rattle.std.specs.Prelude.{ℕ, ◌+◌, ◌≤◌, get_or}
+use Rattle.std.specs.Prelude.{ℕ, ◌+◌, ◌≤◌, ◌<◌, length, get_or}
 use Rattle.model.specs.Sheet.{rule_words}
 use Rattle.model.specs.Compose.{pair, of_pairs}
 use Rattle.indexed.specs.declared.Spot.{Spot}
@@ -16,13 +16,14 @@ use Rattle.join_alike.specs.Alike.{row_joint, joint_left, sheets_joint, rows_lef
 abbrev pub word_of : Spot → ℕ → ℕ
 word_of x k = get_or x.sheet.words.now (x.at + k) 0
 
--- the pair of the states that are word k of two rules, each a number of one byte
+-- the pair of the states that are word k of two rules, each a number of one byte among the words of its sheet
 abbrev pub state_in : RulePair → ℕ → ℕ
 state_in r k = pair r.sizes.t (word_of r.s k) (word_of r.t k)
 
 pub record StatesAt (r : RulePair) (k : ℕ) : Type 0 where
-  pub first : word_of r.s k ≤ 255
-  pub second : word_of r.t k ≤ 255
+  pub few : r.sizes.t ≤ 64
+  pub first : (r.s.at + k < length r.s.sheet.words.now) × (word_of r.s k ≤ 255)
+  pub second : (r.t.at + k < length r.t.sheet.words.now) × (word_of r.t k ≤ 255)
 
 -- the words of all joint rules of a row, and of those of its pairs that are left
 abbrev pub row_words : Row → List ℕ

@@ -17,7 +17,9 @@ fn joint_state(rules: &RulePair, k: usize) -> u32
     requires { StatesAt rules.now k }
     ensures { result ≡ state_in rules.now k }
 {
-    rules.sizes.pair(rules.s.word(k), rules.t.word(k))
+    let s = rules.s.sheet.words[rules.s.at + k];
+    let t = rules.t.sheet.words[rules.t.at + k];
+    rules.sizes.pair(s, t)
 }
 
 // Writes the joint rule of two rules of a text: its kind and the pair of the targets.
