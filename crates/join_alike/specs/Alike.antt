@@ -30,12 +30,14 @@ row_joint r = flat_map (pair_rule (sizes_of r.sizes) (rule_of r.rule)) (rules_in
 abbrev pub joint_left : Pairs → List Rule
 joint_left p = flat_map (pair_rule (sizes_of p.sizes) (rule_of p.rule)) (chain_left p.others)
 
--- the next pair, if there is one: its joint rule, and those of the pairs after it
+-- the next pair, if there is one: its joint rule, and those of the pairs after it; its rule of T is one of the same sheet
 pub record PairNext (p : Pairs) (x : RulePair) (q : Pairs) : Type 0 where
   pub joint : joint_left p ≡ pair_joint x ++ joint_left q
   pub rule : x.s ≡ p.rule
+  pub of_T : x.t.sheet ≡ p.others.sheet
   pub sizes : x.sizes ≡ p.sizes
   pub same_rule : q.rule ≡ p.rule
+  pub same_T : q.others.sheet ≡ p.others.sheet
   pub same_sizes : q.sizes ≡ p.sizes
 
 abbrev pub NextPair : Pairs → Option RulePair → Pairs → Type 0
@@ -50,10 +52,14 @@ sheets_joint b = joint_rules (sizes_of b.sizes) (rules_in b.s.words.now) (rules_
 abbrev pub rows_left : Rows → List Rule
 rows_left p = joint_rules (sizes_of p.sizes) (all_left p.rules) (rules_in p.others.words.now)
 
--- the next row, if there is one: its joint rules, and those of the rows after it
+-- the next row, if there is one: its joint rules, and those of the rows after it; both are of the same two sheets
 pub record RowNext (p : Rows) (x : Row) (q : Rows) : Type 0 where
   pub joint : rows_left p ≡ row_joint x ++ rows_left q
+  pub of_S : x.rule.sheet ≡ p.rules.sheet
+  pub others : x.others ≡ p.others
   pub sizes : x.sizes ≡ p.sizes
+  pub same_S : q.rules.sheet ≡ p.rules.sheet
+  pub same_T : q.others ≡ p.others
   pub same_sizes : q.sizes ≡ p.sizes
 
 abbrev pub NextRow : Rows → Option Row → Rows → Type 0

@@ -36,6 +36,7 @@ impl<'a> Row<'a> {
     // The rule with each rule of T that has its key.
     pub fn pairs(&self) -> Pairs<'a>
         ensures rule { result.rule ≡ self.now.rule }
+        ensures others { result.others.sheet ≡ self.now.others }
         ensures sizes { result.sizes ≡ self.now.sizes }
         ensures all { row_joint self.now ≡ joint_left result }
     {
@@ -131,6 +132,7 @@ impl<'a> Sheets<'a> {
 
     // A row for each rule of S.
     pub fn rows(&self) -> Rows<'a>
+        ensures sheets { (result.rules.sheet ≡ self.now.s) × (result.others ≡ self.now.t) }
         ensures sizes { result.sizes ≡ self.now.sizes }
         ensures all { sheets_joint self.now ≡ rows_left result }
     {

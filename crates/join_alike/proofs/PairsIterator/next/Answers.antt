@@ -15,7 +15,9 @@ returns-clause-steps c =
     record {
       joint = pairs_next (sizes_of p.sizes) (rule_of p.rule) c.in_ok-t.ensures.steps.rule;
       rule = refl;
+      of_T = c.in_ok-t.ensures.steps.of_sheet;
       sizes = refl;
       same_rule = refl;
+      same_T = c.in_ok-t.ensures.steps.sheet;
       same_sizes = refl;
     }

@@ -15,6 +15,10 @@ returns-clause-steps c =
     let p = c.args.self.now in
     record {
       joint = rows_next (sizes_of p.sizes) (rules_in p.others.words.now) c.in_ok-rule.ensures.steps.rule;
+      of_S = c.in_ok-rule.ensures.steps.of_sheet;
+      others = refl;
       sizes = refl;
+      same_S = c.in_ok-rule.ensures.steps.sheet;
+      same_T = refl;
       same_sizes = refl;
     }
