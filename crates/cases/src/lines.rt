@@ -2,7 +2,7 @@
 use crate::run::Invocation;
 use cases_scan::{Unreadable, in_one_line, split_name};
 use cases_store::buffers::MOST;
-use cases_store::store::{STORE_WORDS, Store};
+use cases_store::input_store::{InputStore, STORE_WORDS};
 use cases_values::contents::{Case, Content};
 use cases_values::values::Evaluator;
 use std::rt::Files;
@@ -16,7 +16,7 @@ struct Line<'a> {
 
 // Makes the call of a line, between what is printed of it: what is before its comment, and the comment. What the answer counts of the
 // lent buffer is put on the store, in place of the case's values.
-fn make_call(store: &mut Store, line: &[u8], case: &Case) -> Result<(), Unreadable> {
+fn make_call(store: &mut InputStore, line: &[u8], case: &Case) -> Result<(), Unreadable> {
     let mut out = [7; MOST];
     let invocation = Invocation::new(case, store)?;
     cases_print::before_answer(line, case.comment);
@@ -60,7 +60,7 @@ pub(crate) fn all<R: Files>(rt: &R, text: &[u8]) {
     let mut words = [0; STORE_WORDS];
     let mut evaluator = Evaluator {
         rt,
-        store: Store::new(text, &mut words),
+        store: InputStore::new(text, &mut words),
     };
     let mut start: usize = 0;
     for text in text.chunk_by(in_one_line) {

@@ -3,7 +3,8 @@ use cases_print::{answer, judgement, text};
 use cases_scan::Unreadable;
 use cases_store::buffers::{MOST, low_bytes};
 use cases_store::filled::Filled;
-use cases_store::store::{Part, Store};
+use cases_store::input_store::InputStore;
+use cases_store::store::Part;
 use cases_values::calls::{Buffer, Call};
 use cases_values::contents::Case;
 use cases_values::values::MOST_VALUES;
@@ -63,7 +64,7 @@ pub(crate) struct Invocation<'s> {
 }
 
 impl<'s> Invocation<'s> {
-    pub(crate) fn new(case: &Case, store: &'s Store) -> Result<Invocation<'s>, Unreadable> {
+    pub(crate) fn new(case: &Case, store: &'s InputStore) -> Result<Invocation<'s>, Unreadable> {
         let mut values = Filled::new();
         for part in case.values.parts.as_slice() {
             values.push(store.words(*part))?;

@@ -1,5 +1,5 @@
 // Arrays that are filled from the front.
-ghost use Rattle.std.specs.Prelude.{◌≤◌};
+ghost use Rattle.std.specs.Prelude.{◌≡◌, ◌↔◌, ◌+◌, ◌-◌, ◌<◌, ◌≤◌, min, take, slice_get, IsSome, MatchResult};
 ghost use Rattle.std.specs.Iterator.{IsFinite};
 
 use cases_scan::Unreadable;
@@ -34,7 +34,9 @@ impl<T: Copy + Default, const N: usize> Filled<T, N> {
         }
     }
 
-    pub fn len(&self) -> usize {
+    pub fn len(&self) -> usize
+        ensures { result ≡ self.now.len }
+    {
         self.len
     }
 
@@ -43,13 +45,26 @@ impl<T: Copy + Default, const N: usize> Filled<T, N> {
     }
 
     // Adds an element, where there is room.
-    pub fn push(&mut self, item: T) -> Result<(), Unreadable> {
+    pub fn push(&mut self, item: T) -> Result<(), Unreadable>
+        ensures { MatchResult result (λ _. self.new.len ≡ self.old.len + 1) (λ _. (self.old.len ≡ N) × (self.new ≡ self.old)) }
+    {
         if self.len == N {
             return Err(Unreadable);
         }
         self.items[self.len] = item;
         self.len += 1;
         Ok(())
+    }
+
+    // Drops the last element, and gives it.
+    pub fn pop(&mut self) -> Option<T>
+        ensures some { IsSome result ↔ (0 < self.old.len) }
+        ensures last { result ≡ slice_get (take self.old.len self.old.items) (self.old.len - 1) }
+        ensures len { self.new.len ≡ self.old.len - 1 }
+        ensures items { self.new.items ≡ self.old.items }
+    {
+        self.len = self.len.checked_sub(1)?;
+        Some(self.items[self.len])
     }
 
     // Adds elements, as far as there is room.
@@ -64,7 +79,10 @@ impl<T: Copy + Default, const N: usize> Filled<T, N> {
     }
 
     // Drops the elements from an index on.
-    pub fn truncate(&mut self, len: usize) {
+    pub fn truncate(&mut self, len: usize)
+        ensures len { self.new.len ≡ min self.old.len len }
+        ensures items { self.new.items ≡ self.old.items }
+    {
         self.len = self.len.min(len);
     }
 }

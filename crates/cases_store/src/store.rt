@@ -1,11 +1,14 @@
-// The store: the words of values, one value after the other. Behind the words of a named value there are two more: where its name begins in
-// the input, and where its words begin. So names are looked for from the top down.
-ghost use Rattle.std.specs.Prelude.{length};
-ghost use Rattle.std.specs.Iterator.{IsFinite, at_most};
+// The store: the words of values, one value after the other, and beside them where those of a named value are.
+ghost use Rattle.std.specs.Prelude.{◌≡◌, ◌↔◌, ◌+◌, ◌<◌, min, IsOk, MatchResult};
+ghost use Rattle.std.specs.Iterator.{IsFinite};
 
-use cases_scan::{Unreadable, split_word};
+use crate::filled::Filled;
+use cases_scan::Unreadable;
 
-pub const STORE_WORDS: usize = 262_143;
+const STORE_WORDS: usize = 262_144;
+
+// The most values that have a name: more than the input has lines that name one.
+pub const MOST_NAMED: usize = 20_480;
 
 // The indices from one up to another.
 #[derive(Clone, Copy, Default)]
@@ -14,104 +17,76 @@ pub struct Part {
     pub to: usize,
 }
 
-// ---- names
-
-#[derive(Clone, Copy)]
-struct Named {
-    // where the name begins in the input
-    name: usize,
+// A part with its name.
+#[derive(Clone, Copy, Default)]
+pub struct Named<'a> {
+    name: &'a [u8],
     part: Part,
 }
 
-// The words of named values, each with the two behind them. The values come one after the other, the last first.
-#[derive(Clone, Copy)]
-struct NamedValues<'s> {
-    words: &'s [u32],
-}
-
-impl<'s> Iterator for NamedValues<'s> {
-    type Item = Named;
-
-    ghost remaining = { λ s. at_most (length s.words.now) };
-
-    fn next(&mut self) -> Option<Named> {
-        let [words @ .., name, from] = self.words else {
-            return None;
-        };
-        let part = Part {
-            from: *from as usize,
-            to: words.len(),
-        };
-        self.words = words.get(..part.from)?;
-        Some(Named {
-            name: *name as usize,
-            part,
-        })
-    }
-}
-
-// ---- the store
-
-// The array is lent, since it is too large to be handed over.
-// kept: no heap, so indices stand beside the array; and a value that ended above the top still has its words
+// A store that takes a name from anywhere, for any part. `InputStore`, which takes names of its input alone, needs no array for them.
+// The arrays are lent, since they are too large to be handed over.
 #[derive(Drop)]
 pub struct Store<'s, 'a> {
-    input: &'a [u8],
-    words: &'s mut [u32; STORE_WORDS],
-    // where the words of a line begin, above all named values; none where the store is full
-    start: Option<usize>,
-    // where the next word goes; none where no word can be pushed
-    top: Option<usize>,
+    words: &'s mut Filled<u32, STORE_WORDS>,
+    named: &'s mut Filled<Named<'a>, MOST_NAMED>,
 }
 
+// kept: `extend`, `push_again` and `push_bytes_of` are those of `InputStore`, over another array; a trait of both would have to be named
+// wherever one of them is called
 impl<'s, 'a> Store<'s, 'a> {
-    pub fn new(input: &'a [u8], words: &'s mut [u32; STORE_WORDS]) -> Store<'s, 'a> {
-        Store {
-            input,
-            words,
-            start: Some(0),
-            top: Some(0),
-        }
+    pub fn new(
+        words: &'s mut Filled<u32, STORE_WORDS>,
+        named: &'s mut Filled<Named<'a>, MOST_NAMED>,
+    ) -> Store<'s, 'a>
+        ensures words { result.words.now ≡ words.old }
+        ensures named { result.named.now ≡ named.old }
+    {
+        Store { words, named }
     }
 
-    pub fn top(&self) -> Option<usize> {
-        self.top
+    // Where the next word goes.
+    pub fn top(&self) -> usize
+        ensures { result ≡ self.now.words.now.len }
+    {
+        self.words.len()
     }
 
-    // The words from an index up to the top; none where either is nowhere.
-    pub fn part_from(&self, from: Option<usize>) -> Part {
-        match (from, self.top) {
-            (Some(from), Some(to)) => Part { from, to },
-            _ => Part::default(),
+    fn word(&self, i: usize) -> Result<u32, Unreadable> {
+        self.words.as_slice().get(i).copied().ok_or(Unreadable)
+    }
+
+    // The words from an index up to the top.
+    pub fn part_from(&self, from: usize) -> Part
+        ensures { (result.from ≡ from) × (result.to ≡ self.now.words.now.len) }
+    {
+        Part {
+            from,
+            to: self.top(),
         }
     }
 
     // The words of a part, or none where there is no such part.
     pub fn words(&self, part: Part) -> &[u32] {
-        self.words.get(part.from..part.to).unwrap_or_default()
-    }
-
-    fn word(&self, i: usize) -> Result<u32, Unreadable> {
-        self.words.get(i).copied().ok_or(Unreadable)
+        self.words
+            .as_slice()
+            .get(part.from..part.to)
+            .unwrap_or_default()
     }
 
     // ---- words on top
 
-    // Drops the words of a line, so that others can be put there, unless the store is full.
-    pub fn begin_line(&mut self) -> Result<(), Unreadable> {
-        let start = self.start.ok_or(Unreadable)?;
-        self.top = Some(start);
-        Ok(())
+    // Drops the words from an index on.
+    pub fn truncate(&mut self, top: usize)
+        ensures { self.new.words.now.len ≡ min self.old.words.now.len top }
+    {
+        self.words.truncate(top);
     }
 
-    pub fn push(&mut self, word: u32) -> Result<(), Unreadable> {
-        let top = self.top.ok_or(Unreadable)?;
-        if STORE_WORDS <= top {
-            return Err(Unreadable);
-        }
-        self.words[top] = word;
-        self.top = Some(top + 1);
-        Ok(())
+    pub fn push(&mut self, word: u32) -> Result<(), Unreadable>
+        ensures { MatchResult result (λ _. self.new.words.now.len ≡ self.old.words.now.len + 1) (λ _. self.old.words.now.len ≡ 262144) }
+    {
+        self.words.push(word)
     }
 
     // A word for each item.
@@ -145,15 +120,11 @@ impl<'s, 'a> Store<'s, 'a> {
         Ok(())
     }
 
-    // The words from an index up to the top, that many times in all. Where they begin nowhere, as in a group that has no item yet, none are
-    // pushed, and after 0 times no word can be pushed any more.
-    pub fn repeat(&mut self, from: Option<usize>, times: u32) -> Result<(), Unreadable> {
+    // The words from an index up to the top, that many times in all.
+    pub fn repeat(&mut self, from: usize, times: u32) -> Result<(), Unreadable> {
         let item = self.part_from(from);
         if times == 0 {
-            self.top = self.top.and(from);
-        }
-        if 1 < times && self.top.is_none() {
-            return Err(Unreadable);
+            self.truncate(from);
         }
         for _ in 1..times {
             self.push_again(item)?;
@@ -162,41 +133,34 @@ impl<'s, 'a> Store<'s, 'a> {
     }
 
     // The last word from an index on becomes 256 times itself, and a byte.
-    pub fn shift(&mut self, from: Option<usize>, byte: u8) -> Result<(), Unreadable> {
-        let item = self.part_from(from);
-        let words = self.words.get_mut(item.from..item.to).ok_or(Unreadable)?;
-        let word = words.last_mut().ok_or(Unreadable)?;
-        *word = *word << 8 | u32::from(byte);
-        Ok(())
+    pub fn shift(&mut self, from: usize, byte: u8) -> Result<(), Unreadable>
+        ensures same { self.new.words.now.len ≡ self.old.words.now.len }
+        ensures some { IsOk result ↔ (from < self.old.words.now.len) }
+    {
+        if self.top() <= from {
+            return Err(Unreadable);
+        }
+        let word = self.words.pop().ok_or(Unreadable)?;
+        self.push(word << 8 | u32::from(byte))
     }
 
     // ---- names
 
-    fn push_name(&mut self, name: usize) -> Result<(), Unreadable> {
-        let from = self.start.ok_or(Unreadable)?;
-        self.push(u32::try_from(name).or(Err(Unreadable))?)?;
-        self.push(u32::try_from(from).or(Err(Unreadable))?)
-    }
-
-    // Gives all words above the named values a name, by where it begins in the input. Where there is no room for that, the store is full from
-    // then on.
-    pub fn define(&mut self, name: usize) {
-        self.start = match self.push_name(name) {
-            Ok(()) => self.top,
-            Err(_) => None,
-        };
+    // Gives the words of a part a name.
+    pub fn define(&mut self, name: &'a [u8], part: Part) -> Result<(), Unreadable>
+        ensures { MatchResult result (λ _. self.new.named.now.len ≡ self.old.named.now.len + 1) (λ _. self.old.named.now.len ≡ 20480) }
+    {
+        self.named.push(Named { name, part })
     }
 
     // The words that were last given a name.
     pub fn find(&self, name: &[u8]) -> Result<Part, Unreadable> {
-        let start = self.start.ok_or(Unreadable)?;
-        let words = self.words.get(..start).ok_or(Unreadable)?;
-        for named in (NamedValues { words }) {
-            let (found, _) = split_word(self.input.get(named.name..).unwrap_or_default());
-            if found == name {
-                return Ok(named.part);
-            }
-        }
-        Err(Unreadable)
+        let named = self
+            .named
+            .as_slice()
+            .iter()
+            .rfind(|named| named.name == name)
+            .ok_or(Unreadable)?;
+        Ok(named.part)
     }
 }

@@ -3,7 +3,8 @@ use cases_scan::Unreadable;
 use cases_scan::tokens::{Item, Token, Tokens};
 use cases_store::buffers::MOST;
 use cases_store::filled::Filled;
-use cases_store::store::{Part, Store};
+use cases_store::input_store::InputStore;
+use cases_store::store::Part;
 use std::rt::Files;
 
 // The most values of a line.
@@ -40,7 +41,7 @@ impl<'a> Reading<'a> {
     }
 
     // Ends a value, in which no group is open.
-    fn end(&mut self, store: &Store) -> Result<(), Unreadable> {
+    fn end(&mut self, store: &InputStore) -> Result<(), Unreadable> {
         if self.group.is_some() {
             return Err(Unreadable);
         }
@@ -93,7 +94,7 @@ impl<'a> Reading<'a> {
 #[derive(Drop)]
 pub struct Evaluator<'r, 's, 'a, R> {
     pub rt: &'r R,
-    pub store: Store<'s, 'a>,
+    pub store: InputStore<'s, 'a>,
 }
 
 impl<R: Files> Evaluator<'_, '_, '_, R> {
