@@ -1,5 +1,5 @@
 // Arrays that are filled from the front.
-ghost use Rattle.std.specs.Prelude.{◌≡◌, ◌↔◌, ◌+◌, ◌-◌, ◌<◌, ◌≤◌, min, take, slice_get, IsSome, MatchResult};
+ghost use Rattle.std.specs.Prelude.{◌≡◌, ◌↔◌, ◌+◌, ◌-◌, ◌<◌, ◌≤◌, min, take, slice_get, IsSome, IsOk, MatchResult, set};
 ghost use Rattle.std.specs.Iterator.{IsFinite};
 
 use cases_scan::Unreadable;
@@ -46,7 +46,8 @@ impl<T: Copy + Default, const N: usize> Filled<T, N> {
 
     // Adds an element, where there is room.
     pub fn push(&mut self, item: T) -> Result<(), Unreadable>
-        ensures { MatchResult result (λ _. self.new.len ≡ self.old.len + 1) (λ _. (self.old.len ≡ N) × (self.new ≡ self.old)) }
+        ensures len { MatchResult result (λ _. self.new.len ≡ self.old.len + 1) (λ _. (self.old.len ≡ N) × (self.new ≡ self.old)) }
+        ensures items { IsOk result → self.new.items ≡ set self.old.items self.old.len item }
     {
         if self.len == N {
             return Err(Unreadable);

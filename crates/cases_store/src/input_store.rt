@@ -6,6 +6,7 @@ ghost use Rattle.std.specs.Iterator.{IsFinite, at_most};
 use crate::store::Part;
 use cases_scan::{Unreadable, split_word};
 
+// The most words of an input's values, with the two of each name.
 pub const STORE_WORDS: usize = 262_143;
 
 // ---- names
@@ -155,7 +156,7 @@ impl<'s, 'a> InputStore<'s, 'a> {
         Ok(())
     }
 
-    // The last word from an index on becomes 256 times itself, and a byte.
+    // The last word from an index on becomes 256 times itself, without what is over 32 bits, and a byte.
     pub fn shift(&mut self, from: Option<usize>, byte: u8) -> Result<(), Unreadable> {
         let item = self.part_from(from);
         let words = self.words.get_mut(item.from..item.to).ok_or(Unreadable)?;
@@ -172,8 +173,8 @@ impl<'s, 'a> InputStore<'s, 'a> {
         self.push(u32::try_from(from).or(Err(Unreadable))?)
     }
 
-    // Gives all words above the named values a name, by where it begins in the input. Where there is no room for that, the store is full from
-    // then on.
+    // Gives all words above the named values a name, by where it begins in the input. Where there is no room for that, the store is full
+    // from then on.
     pub fn define(&mut self, name: usize) {
         self.start = match self.push_name(name) {
             Ok(()) => self.top,

@@ -1,5 +1,5 @@
 // The store: the words of values, one value after the other, and beside them where those of a named value are.
-ghost use Rattle.std.specs.Prelude.{◌≡◌, ◌↔◌, ◌+◌, ◌<◌, min, IsOk, MatchResult};
+ghost use Rattle.std.specs.Prelude.{◌≡◌, ◌↔◌, ◌+◌, ◌<◌, min, IsOk, IsErr, set, get_or, bit_or, ◌*◌, ◌%◌, ◌^◌, ◌-◌};
 ghost use Rattle.std.specs.Iterator.{IsFinite};
 
 use crate::filled::Filled;
@@ -7,7 +7,7 @@ use cases_scan::Unreadable;
 
 const STORE_WORDS: usize = 262_144;
 
-// The most values that have a name: more than the input has lines that name one.
+// The most values of a store that have a name.
 pub const MOST_NAMED: usize = 20_480;
 
 // The indices from one up to another.
@@ -78,13 +78,19 @@ impl<'s, 'a> Store<'s, 'a> {
 
     // Drops the words from an index on.
     pub fn truncate(&mut self, top: usize)
-        ensures { self.new.words.now.len ≡ min self.old.words.now.len top }
+        ensures len { self.new.words.now.len ≡ min self.old.words.now.len top }
+        ensures items { self.new.words.now.items ≡ self.old.words.now.items }
+        ensures names { self.new.named.now ≡ self.old.named.now }
     {
         self.words.truncate(top);
     }
 
+    // Adds a word, where there is room.
     pub fn push(&mut self, word: u32) -> Result<(), Unreadable>
-        ensures { MatchResult result (λ _. self.new.words.now.len ≡ self.old.words.now.len + 1) (λ _. self.old.words.now.len ≡ 262144) }
+        ensures len { IsOk result → self.new.words.now.len ≡ self.old.words.now.len + 1 }
+        ensures word { IsOk result → self.new.words.now.items ≡ set self.old.words.now.items self.old.words.now.len word }
+        ensures full { IsErr result → (self.old.words.now.len ≡ STORE_WORDS) × (self.new.words.now ≡ self.old.words.now) }
+        ensures names { self.new.named.now ≡ self.old.named.now }
     {
         self.words.push(word)
     }
@@ -132,10 +138,17 @@ impl<'s, 'a> Store<'s, 'a> {
         Ok(())
     }
 
-    // The last word from an index on becomes 256 times itself, and a byte.
+    // The last word from an index on becomes 256 times itself, without what is over 32 bits, and a byte. None is there: an error, and no
+    // change.
     pub fn shift(&mut self, from: usize, byte: u8) -> Result<(), Unreadable>
         ensures same { self.new.words.now.len ≡ self.old.words.now.len }
         ensures some { IsOk result ↔ (from < self.old.words.now.len) }
+        ensures none { IsErr result → self.new.words.now ≡ self.old.words.now }
+        ensures word { IsOk result →
+            self.new.words.now.items ≡
+            set self.old.words.now.items (self.old.words.now.len - 1)
+            (bit_or (get_or self.old.words.now.items (self.old.words.now.len - 1) 0 * 256 % 2 ^ 32) byte) }
+        ensures names { self.new.named.now ≡ self.old.named.now }
     {
         if self.top() <= from {
             return Err(Unreadable);
@@ -146,9 +159,14 @@ impl<'s, 'a> Store<'s, 'a> {
 
     // ---- names
 
-    // Gives the words of a part a name.
+    // Gives the words of a part a name, where there is room for one more.
     pub fn define(&mut self, name: &'a [u8], part: Part) -> Result<(), Unreadable>
-        ensures { MatchResult result (λ _. self.new.named.now.len ≡ self.old.named.now.len + 1) (λ _. self.old.named.now.len ≡ 20480) }
+        ensures len { IsOk result → self.new.named.now.len ≡ self.old.named.now.len + 1 }
+        ensures full { IsErr result → (self.old.named.now.len ≡ MOST_NAMED) × (self.new.named.now ≡ self.old.named.now) }
+        ensures name { IsOk result →
+            self.new.named.now.items ≡
+            set self.old.named.now.items self.old.named.now.len (record { name = name.entry; part = part }) }
+        ensures words { self.new.words.now ≡ self.old.words.now }
     {
         self.named.push(Named { name, part })
     }
